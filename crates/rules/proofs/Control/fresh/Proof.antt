@@ -1,0 +1,17 @@
+use borrow.Author.Needs.{needs}
+use Rattle.rules.proofs.Control.fresh.Statement.{statement}
+use Rattle.rules.proofs.Control.fresh.Tie as tie
+use Rattle.rules.proofs.Control.fresh.Reads as reads
+use Rattle.rules.proofs.Control.fresh.Lts as lts
+use Rattle.rules.proofs.Thread.idle.Reads as idle-reads
+
+-- src/lib.rt:187:13
+idle-requires : tie.Need-idle-requires
+idle-requires c κs = search needs
+
+-- src/lib.rt:184:5
+returns : tie.Need-returns
+returns c = rw (c .idle .ensures)
+
+pub fresh-spec : {M : Type 1} → statement M
+fresh-spec = tie.close (tie.spec idle-requires returns)

@@ -1,0 +1,16 @@
+pub mod Numbers
+pub mod Upto
+pub mod Record
+pub mod Memory
+pub mod Line
+pub mod Answers
+pub mod Places
+pub mod Table
+pub mod Cut
+pub mod Sound
+pub mod State
+pub mod Refusals
+pub mod Events
+pub mod Listing
+pub mod Reader
+pub mod Cases

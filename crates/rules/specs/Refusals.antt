@@ -1,0 +1,73 @@
+-- Document 01, "Refusal numbers": for each entry its tests in order. 0 is no refusal.
+use Prim.Native.Nat.{ℕ}
+use mathlib.Core.List.{List}
+use mathlib.Core.Bool.{Bool, cond, _&&_, not}
+use lib.Dec.{eqb, ltb, leb}
+use lib.ListN.{length}
+use Rattle.rules.specs.declared.Line.{Line}
+use Rattle.rules.specs.declared.Control.{Control}
+use Rattle.rules.specs.declared.Event.{Event}
+use Rattle.rules.specs.declared.Event.the-variants.{Put, Take, Go, Back, Cut}
+use Rattle.rules.specs.Numbers.{inRange, runLimit}
+use Rattle.rules.specs.Record.{threadAt}
+use Rattle.rules.specs.Memory.{size}
+use Rattle.rules.specs.Line.{lineExists}
+use Rattle.rules.specs.Sound.{soundRecord, soundImage}
+use Rattle.rules.specs.State.{State}
+
+-- k where the test holds, else what the next tests give
+abbrev pub refuse : Bool → ℕ → ℕ → ℕ
+refuse b k next = cond b k next
+
+-- an image shorter than 4R + n + 2
+abbrev pub short : ℕ → ℕ → List ℕ → Bool
+short R n m = ltb (length m) (size R n)
+
+abbrev pub full : Control → Bool
+full c = eqb (c .ring .events) runLimit
+
+abbrev pub noThread : Control → ℕ → Bool
+noThread c i = leb (c .ring .threads) i
+
+abbrev pub isIdle : Control → ℕ → Bool
+isIdle c i = eqb (threadAt c i .place) 0
+
+-- setup
+unfoldable pub setupRefusal : ℕ → ℕ → ℕ → List ℕ → List ℕ → ℕ
+setupRefusal R n S running kept =
+    refuse (not (inRange R n S)) 1
+    (refuse (short R n running) 10
+    (refuse (short R n kept) 10 0))
+
+-- what every event tests first: the record, then the images
+unfoldable pub unsound : State → ℕ
+unsound s =
+    let g = s .control .ring in
+    refuse (not (soundRecord (s .control))) 8
+    (refuse (short (g .cells) (g .threads) (s .running)) 10
+    (refuse (short (g .cells) (g .threads) (s .kept)) 10
+    (refuse (not (soundImage (g .cells) (g .threads) (g .events) (s .running))) 12
+    (refuse (not (soundImage (g .cells) (g .threads) (g .events) (s .kept))) 12 0))))
+
+-- what each event tests then
+unfoldable pub ownRefusal : Control → Event → ℕ
+ownRefusal c (Put i x) = refuse (full c) 7 (refuse (noThread c i) 2 (refuse (not (isIdle c i)) 4 (refuse (eqb x 0) 6 0)))
+ownRefusal c (Take i) = refuse (full c) 7 (refuse (noThread c i) 2 (refuse (not (isIdle c i)) 4 0))
+ownRefusal c (Go i) = refuse (full c) 7 (refuse (noThread c i) 2 (refuse (isIdle c i) 5 0))
+ownRefusal c (Back l) = refuse (full c) 7 (refuse (not (lineExists (c .ring .cells) (c .ring .threads) l)) 3 0)
+ownRefusal c Cut = refuse (full c) 7 0
+
+-- host recovery, where no record is lent
+unfoldable pub keptRefusal : ℕ → ℕ → ℕ → ℕ → List ℕ → ℕ
+keptRefusal R n S e kept =
+    refuse (not (inRange R n S && leb e runLimit)) 8
+    (refuse (short R n kept) 10
+    (refuse (not (soundImage R n e kept)) 12 0))
+
+-- the listing: the same, and room for R numbers
+unfoldable pub listingRefusal : ℕ → ℕ → ℕ → ℕ → List ℕ → List ℕ → ℕ
+listingRefusal R n S e kept room =
+    refuse (not (inRange R n S && leb e runLimit)) 8
+    (refuse (short R n kept) 10
+    (refuse (not (soundImage R n e kept)) 12
+    (refuse (ltb (length room) R) 11 0)))
