@@ -57,6 +57,10 @@ ownRefusal c (Go i) = refuse (full c) 7 (refuse (noThread c i) 2 (refuse (isIdle
 ownRefusal c (Back l) = refuse (full c) 7 (refuse (not (lineExists (c .ring .cells) (c .ring .threads) l)) 3 0)
 ownRefusal c Cut = refuse (full c) 7 0
 
+-- an event's refusal, by all its tests in order
+unfoldable pub refusal : State → Event → ℕ
+refusal s e = cond (eqb (unsound s) 0) (ownRefusal (s .control) e) (unsound s)
+
 -- host recovery, where no record is lent
 unfoldable pub keptRefusal : ℕ → ℕ → ℕ → ℕ → List ℕ → ℕ
 keptRefusal R n S e kept =
