@@ -1,5 +1,8 @@
 -- Theorems about the definitions.
 pub mod Cases
+pub mod CasesRows
+pub mod CasesRefusals
+pub mod CasesStates
 pub mod Memory
 pub mod Tests
 pub mod Sound
@@ -8,3 +11,19 @@ pub mod Rows
 pub mod Accepted
 pub mod Keep
 pub mod Events
+pub mod Limit
+pub mod Kept
+pub mod Past
+pub mod Sums
+pub mod Fresh
+pub mod LeftByBack
+pub mod LeftByCut
+pub mod Unread
+pub mod Joined
+pub mod Rising
+pub mod RecoveredAgain
+pub mod Queue
+pub mod Listed
+pub mod Reader
+pub mod OneToOne
+pub mod Unique

@@ -66,3 +66,10 @@ pub record Sound (s : State) : Type 0 where
   pub long-kept : size (s .control .ring .cells) (s .control .ring .threads) ≤ length (s .kept)
   pub running : SoundImage (s .control .ring .cells) (s .control .ring .threads) (s .control .ring .events) (s .running)
   pub kept : SoundImage (s .control .ring .cells) (s .control .ring .threads) (s .control .ring .events) (s .kept)
+
+-- what a row needs: the ring's numbers, its thread and the running image are sound
+pub record Ready (g : Ring) (i : ℕ) (t : Thread) (m : List ℕ) : Type 0 where
+  pub ring : SoundRing g
+  pub thread : Busy (g .cells) (g .threads) (g .tries) (g .events) i t
+  pub long : size (g .cells) (g .threads) ≤ length m
+  pub image : SoundImage (g .cells) (g .threads) (g .events) m

@@ -22,8 +22,11 @@ pub record Step : Type 0 where
   pub moved : Moved
   pub running : List ℕ
 
+abbrev pub leaves : Moved → List ℕ → Step
+leaves r m = record { moved = r; running = m }
+
 abbrev pub step : Ring → Thread → Answer → List ℕ → Step
-step g t a m = record { moved = record { ring = g; thread = t; answer = a }; running = m }
+step g t a m = leaves (record { ring = g; thread = t; answer = a }) m
 
 -- a thread that goes to place p, and what else becomes of it
 abbrev pub to : Thread → ℕ → Thread

@@ -1,0 +1,5 @@
+pub mod Laws
+pub mod Sweep
+pub mod Least
+pub mod Room
+pub mod Unique

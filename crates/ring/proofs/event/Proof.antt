@@ -1,0 +1,43 @@
+use mathlib.Core.Path.{sym, _∙_}
+use borrow.Author.Needs.{needs}
+use Rattle.rules.proofs.Events.{event-refused, event-inner}
+use Rattle.rules.proofs.Sound.{sound-of}
+use Rattle.ring.proofs.event.Statement.{statement}
+use Rattle.ring.proofs.event.Tie as tie
+
+unsound-requires : tie.Need-unsound-requires
+unsound-requires c κs = search needs
+
+same-length : tie.Need-same-length
+same-length c = search needs
+
+same-length-2 : tie.Need-same-length-2
+same-length-2 c = search needs
+
+returns : tie.Need-returns
+returns c = event-refused _ _ _ (c .before .unsound .ensures) (c .if1 .taken)
+
+any-requires : tie.Need-any-requires
+any-requires c κs = sound-of _ (sym (c .before .before .before .unsound .ensures) ∙ c .before .before .if1 .left)
+
+same-length-3 : tie.Need-same-length-3
+same-length-3 c = search needs
+
+same-length-4 : tie.Need-same-length-4
+same-length-4 c = search needs
+
+returns-2 : tie.Need-returns-2
+returns-2 c = c .before .before .before .before .any .ensures ∙ event-inner _ _ _ (c .before .before .before .before .before .before .before .before .unsound .ensures) (c .before .before .before .before .before .before .before .if1 .left)
+
+pub event-spec : {M : Type 1} → statement M
+event-spec =
+    tie.close
+    (tie.spec
+    unsound-requires
+    same-length
+    same-length-2
+    returns
+    any-requires
+    same-length-3
+    same-length-4
+    returns-2)

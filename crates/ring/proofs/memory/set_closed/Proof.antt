@@ -1,0 +1,27 @@
+use mathlib.Core.Path.{refl}
+use borrow.Author.Needs.{needs}
+use Rattle.rules.specs.Memory.{setClosed}
+use Rattle.ring.proofs.memory.set_closed.Statement.{statement}
+use Rattle.ring.proofs.memory.set_closed.Tie as tie
+
+mul-a : tie.Need-mul-a
+mul-a c = search needs
+
+add-a : tie.Need-add-a
+add-a c = search needs
+
+mul-m : tie.Need-mul-m
+mul-m c = search needs
+
+slice-write-m : tie.Need-slice-write-m
+slice-write-m c = search needs
+
+same-length : tie.Need-same-length
+same-length c = search needs
+
+returns : tie.Need-returns
+unfolding setClosed
+returns c = refl
+
+pub set-closed-spec : {M : Type 1} → statement M
+set-closed-spec = tie.close (tie.spec mul-a add-a mul-m slice-write-m same-length returns)

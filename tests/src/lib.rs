@@ -1,0 +1,15 @@
+//! A model of the queue machine, written from document 01 alone, and what checks it.
+
+pub mod account;
+pub mod answer;
+pub mod check;
+pub mod coverage;
+pub mod fates;
+pub mod machine;
+pub mod memory;
+pub mod play;
+pub mod random;
+pub mod recovery;
+pub mod rows;
+pub mod sound;
+pub mod text;
