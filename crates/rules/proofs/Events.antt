@@ -1,31 +1,29 @@
 -- Accepted and refused events: a refused one changes nothing; an accepted one keeps all sound and adds exactly 1 to the event count.
 use Prim.Native.Nat.{ℕ, _+_, _≤_, _<_}
-use mathlib.Core.Path.{_≡_, refl, sym, ap, _∙_}
+use mathlib.Core.Path.{_≡_, refl, ap, _∙_}
 use mathlib.Core.Logic.{_≢_}
 use mathlib.Core.Bool.{Bool, true, false, cond}
 use mathlib.Core.List.{List}
 use native.Mathlib.Omega.{arith}
 use lib.Dec.{eqb}
 use borrow.Author.Tests.{eqb-true, eqb-false, eq-eqb, ne-eqb}
-use Rattle.rules.specs.declared.Line.{Line}
 use Rattle.rules.specs.declared.Event.{Event}
 use Rattle.rules.specs.declared.Event.the-variants.{Put, Take, Go, Back, Cut as CutEvent}
 use Rattle.rules.specs.Numbers.{runLimit}
 use Rattle.rules.specs.declared.Moved.{Moved}
 use Rattle.rules.specs.Record.{threadAt, withThread, withRing}
-use Rattle.rules.specs.State.{State, state, Out, out, refused, accept}
+use Rattle.rules.specs.State.{State, state, out, refused, accept}
 use Rattle.rules.specs.Refusals.{unsound, ownRefusal, refusal}
 use Rattle.rules.specs.Events.{counts, beginPut, beginTake, stepThread, writeBack, cut, does, inner, event}
 use Rattle.rules.specs.Table.{Step, leaves, row}
 use Rattle.rules.specs.Facts.{Ready, Sound}
-use Rattle.rules.proofs.Tests.{cond-cases}
 use Rattle.rules.proofs.Sound.{sound-of, of-sound}
 use Rattle.rules.proofs.Accepted.{go-accepted}
-use Rattle.rules.proofs.Rows.{Keeps, keep-row}
+use Rattle.rules.proofs.Rows.{keep-row}
 use Rattle.rules.proofs.Keep.{busy-at, does-sound}
 
 -- no refusal: the state is sound, and no test of the event's own holds
-both-pass : (s : State) (e : Event) → refusal s e ≡ 0 → (unsound s ≡ 0) × (ownRefusal (s .control) e ≡ 0)
+pub both-pass : (s : State) (e : Event) → refusal s e ≡ 0 → (unsound s ≡ 0) × (ownRefusal (s .control) e ≡ 0)
 unfolding refusal
 both-pass s e h = by (eqb (unsound s) 0) refl h
   where

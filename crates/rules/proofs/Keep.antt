@@ -1,38 +1,34 @@
 -- An accepted event keeps record and images sound, and adds exactly 1 to the event count; a refused one changes nothing.
-use Prim.Native.Nat.{ℕ, zero, suc, _+_, _*_, _≤_, _<_}
+use Prim.Native.Nat.{ℕ, _+_, _≤_, _<_}
 use mathlib.Core.Path.{_≡_, refl, sym, ap, _∙_}
-use mathlib.Core.Logic.{_≢_, _⊎_, inl, inr}
-use mathlib.Core.Bool.{Bool, true, false, cond, _&&_, _||_, not}
-use mathlib.Core.List.{List, map}
+use mathlib.Core.Logic.{_≢_, inl, inr}
+use mathlib.Core.Bool.{true, false, _||_}
+use mathlib.Core.List.{map}
 use native.Mathlib.Omega.{arith}
-use lib.Dec.{lit<, eqb, leb, ltb}
-use lib.ListN.{length, getD, set, List·getD-map}
-use borrow.Author.Tests.{ltb-true, eqb-true, eqb-false, leb-false, ne-eqb, not-false}
+use lib.Dec.{eqb}
+use lib.ListN.{length, getD, List·getD-map}
+use borrow.Author.Tests.{ltb-true, eqb-true, eqb-false}
 use Rattle.rules.specs.declared.Line.{Line}
 use Rattle.rules.specs.declared.Line.the-variants.{None, Copy, Tail, Cell as CellLine}
 use Rattle.rules.specs.declared.Thread.{Thread}
-use Rattle.rules.specs.declared.Ring.{Ring}
 use Rattle.rules.specs.declared.Control.{Control}
 use Rattle.rules.specs.declared.Event.{Event}
 use Rattle.rules.specs.declared.Event.the-variants.{Put, Take, Go, Back, Cut as CutEvent}
-use Rattle.rules.specs.declared.Answer.the-variants.{Refused}
-use Rattle.rules.specs.Numbers.{maxThreads, runLimit}
-use Rattle.rules.specs.Record.{idle, threadAt, withThread, withRing, counted}
-use Rattle.rules.specs.Memory.{cellAt, copyAt, closedAt, tailAt, setClosed, size, overTo}
+use Rattle.rules.specs.Numbers.{runLimit}
+use Rattle.rules.specs.Record.{idle, threadAt, withThread}
+use Rattle.rules.specs.Memory.{closedAt, setClosed, size, overTo}
 use Rattle.rules.specs.Line.{isNone, lineExists, carried, ends, released}
 use Rattle.rules.specs.Places.{P1, T1}
-use Rattle.rules.specs.Table.{Step, row}
-use Rattle.rules.specs.Cut.{passMark, headOf, finds, recovered}
-use Rattle.rules.specs.State.{State, state, Out, out, refused, accept}
-use Rattle.rules.specs.Refusals.{full, noThread, isIdle, unsound, ownRefusal}
-use Rattle.rules.specs.Events.{counts, begins, beginPut, beginTake, stepThread, writeBack, cut, does, inner, event}
-use Rattle.rules.specs.Facts.{InRange, SoundRing, Busy, SoundThread, SoundCell, SoundImage, SoundRecord, Sound}
-use Rattle.rules.proofs.Tests.{cond-cases, unrefused, set-cases, getD-all}
+use Rattle.rules.specs.Cut.{finds, recovered}
+use Rattle.rules.specs.State.{State, state, Out, accept}
+use Rattle.rules.specs.Refusals.{isIdle, ownRefusal}
+use Rattle.rules.specs.Events.{counts, begins, beginPut, beginTake, stepThread, writeBack, cut, does, inner}
+use Rattle.rules.specs.Facts.{Busy, SoundThread, SoundImage, SoundRecord, Sound}
+use Rattle.rules.proofs.Tests.{cond-cases, set-cases, getD-all}
 use Rattle.rules.proofs.Memory.{length-setCell, length-setCopy, length-setClosed, length-setTail, length-overTo, over-at, agree-cell, agree-copy, agree-closed, agree-tail}
-use Rattle.rules.proofs.Sound.{sound-of, of-sound}
 use Rattle.rules.proofs.Accepted.{put-accepted, take-accepted, go-accepted, back-accepted, cut-accepted}
 use Rattle.rules.proofs.Recovered.{length-recovered, sound-recovered, head-bound}
-use Rattle.rules.proofs.Rows.{thread-more, image-more, store-cell, store-copy, store-closed, store-tail, busy, Keeps, keep-row}
+use Rattle.rules.proofs.Rows.{thread-more, image-more, store-cell, store-copy, store-closed, store-tail, busy, keep-row}
 
 -- a thread that is not idle is busy, an idle one is idle
 pub busy-at : {R n S e i : ℕ} {t : Thread} → SoundThread R n S e i t → t .place ≢ 0 → Busy R n S e i t

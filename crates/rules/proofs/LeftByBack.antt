@@ -22,8 +22,7 @@ use Rattle.rules.proofs.Memory.{length-setClosed, cell-same, cell-other
 use Rattle.rules.proofs.Sound.{sound-of}
 use Rattle.rules.proofs.Accepted.{back-accepted}
 use Rattle.rules.proofs.Keep.{released-at}
-use Rattle.rules.proofs.Events.{accepted-does}
-use Rattle.rules.proofs.Past.{both-pass}
+use Rattle.rules.proofs.Events.{both-pass, accepted-does}
 
 -- every thread awaiting the line awaits nothing
 module _ (R n : ℕ) where

@@ -16,8 +16,7 @@ use Rattle.rules.proofs.Tests.{getD-all}
 use Rattle.rules.proofs.Memory.{over-at}
 use Rattle.rules.proofs.Sound.{sound-of}
 use Rattle.rules.proofs.Recovered.{cell-recovered, copy-recovered, closed-recovered, tail-recovered}
-use Rattle.rules.proofs.Events.{accepted-does}
-use Rattle.rules.proofs.Past.{both-pass}
+use Rattle.rules.proofs.Events.{both-pass, accepted-does}
 use Rattle.rules.proofs.RecoveredAgain.{mended-below, mended-blank, mended-queued}
 
 -- a cut of s that finds f, in a ring of R cells and n threads

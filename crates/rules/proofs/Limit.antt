@@ -1,7 +1,6 @@
 -- Below the run limit a method that takes any numbers does what its name says.
-use Prim.Native.Nat.{ℕ, _<_}
-use mathlib.Core.Path.{_≡_, refl}
-use mathlib.Core.Bool.{cond}
+use Prim.Native.Nat.{_<_}
+use mathlib.Core.Path.{_≡_}
 use borrow.Author.Tests.{lt-ltb}
 use Rattle.rules.specs.declared.Ring.{Ring}
 use Rattle.rules.specs.Numbers.{runLimit}

@@ -1,15 +1,14 @@
 -- Laws of memory: what each view of an image reads after each store.
 use Prim.Native.Nat.{ℕ, zero, suc, _+_, _*_, _≤_, _<_}
-use mathlib.Core.Path.{_≡_, refl, sym, ap, _∙_}
+use mathlib.Core.Path.{_≡_, refl, _∙_}
 use mathlib.Core.Logic.{_≢_}
 use mathlib.Core.List.{List}
 use native.Mathlib.Omega.{arith}
 use native.Mathlib.Decide.{ℕ-discrete}
 use lib.ListN.{length, getD, set, length-set}
-use lib.Seq.{getD-set-other, getD-set-same, lt-length-set}
+use lib.Seq.{getD-set-other, getD-set-same}
 use Rattle.rules.specs.declared.Cell.{Cell}
-use Rattle.rules.specs.Record.{cell}
-use Rattle.rules.specs.Memory.{cellAt, setCell, copyAt, setCopy, closedAt, setClosed, tailAt, setTail, size, cellsTo, copiesTo, overTo, freshImage}
+use Rattle.rules.specs.Memory.{cellAt, setCell, copyAt, setCopy, closedAt, setClosed, tailAt, setTail, size, cellsTo, copiesTo, overTo}
 
 -- lengths stay
 pub length-setCell : (R : ℕ) (m : List ℕ) (j : ℕ) (c : Cell) → length (setCell R m j c) ≡ length m

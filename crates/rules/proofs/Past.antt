@@ -1,14 +1,14 @@
 -- Nothing past the 4R + n + 2 numbers of an image is touched, and no image gets longer or shorter.
 use Prim.Native.Nat.{ℕ, _+_, _*_, _≤_, _<_}
 use mathlib.Core.Path.{_≡_, refl, _∙_}
-use mathlib.Core.Bool.{Bool, true, false, cond}
+use mathlib.Core.Bool.{true, cond}
 use mathlib.Core.List.{List}
 use native.Mathlib.Omega.{arith}
 use native.Mathlib.Nat.{mod-lt}
 use lib.Dec.{eqb, ltb}
 use lib.ListN.{length, getD}
 use lib.Seq.{getD-set-other}
-use borrow.Author.Tests.{ltb-true, eqb-true, eqb-false}
+use borrow.Author.Tests.{ltb-true, eqb-true}
 use Rattle.rules.specs.declared.Line.{Line}
 use Rattle.rules.specs.declared.Line.the-variants.{None, Copy, Tail, Cell as CellLine}
 use Rattle.rules.specs.declared.Cell.{Cell}
@@ -24,7 +24,7 @@ use Rattle.rules.specs.Places.{P1, P2, P3, P4, P5, P6, P7, P8, P9, T1, T
 use Rattle.rules.specs.Table.{Step, spot, matches, rowWait, rowP1, rowP2, rowP3, rowP4, rowP5, rowP6, rowP7, rowP8, rowP9, rowP10, rowT1, rowT2, rowT3, rowT4, rowT5, rowT6, rowT7, rowT8, rowT9, rowT10, putRow, takeRow, row}
 use Rattle.rules.specs.Cut.{recovered}
 use Rattle.rules.specs.State.{State}
-use Rattle.rules.specs.Refusals.{setupRefusal, keptRefusal, unsound, ownRefusal, refusal}
+use Rattle.rules.specs.Refusals.{setupRefusal, keptRefusal, ownRefusal, refusal}
 use Rattle.rules.specs.Events.{beginPut, beginTake, stepThread, writeBack, cut, does, event, freshState, setup}
 use Rattle.rules.specs.Listing.{hostKept}
 use Rattle.rules.specs.Facts.{Sound}
@@ -33,7 +33,7 @@ use Rattle.rules.proofs.Memory.{length-setCell, length-setCopy, length-
 use Rattle.rules.proofs.Sound.{sound-of}
 use Rattle.rules.proofs.Accepted.{go-accepted, back-accepted}
 use Rattle.rules.proofs.Recovered.{length-recovered, number-recovered}
-use Rattle.rules.proofs.Events.{accepted-does}
+use Rattle.rules.proofs.Events.{both-pass, accepted-does}
 use Rattle.rules.proofs.Kept.{kept-of}
 
 -- an image that was m: as long as it was, and past its 4R + n + 2 numbers as it was
@@ -150,15 +150,6 @@ does-stays s CutEvent h q = record {
   running = past-over _ _ (recovered (s .control .ring .cells) (s .control .ring .threads) (s .kept)) (s .running);
   kept = past-recovered _ _ (s .kept) (h .long-kept);
 }
-
--- no refusal: the state is sound, and no test of the event's own holds
-pub both-pass : (s : State) (e : Event) → refusal s e ≡ 0 → (unsound s ≡ 0) × (ownRefusal (s .control) e ≡ 0)
-unfolding refusal
-both-pass s e h = by (eqb (unsound s) 0) refl h
-  where
-    by : (b : Bool) → eqb (unsound s) 0 ≡ b → cond b (ownRefusal (s .control) e) (unsound s) ≡ 0 → (unsound s ≡ 0) × (ownRefusal (s .control) e ≡ 0)
-    by true q h = (eqb-true _ _ q, h)
-    by false q h = absurd (eqb-false _ _ q h)
 
 -- an accepted event touches nothing past 4R + n + 2, in either image
 pub accepted-stays : (s : State) (e : Event) → refusal s e ≡ 0 → BothStay s (event s e .state)

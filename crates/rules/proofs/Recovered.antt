@@ -1,24 +1,23 @@
 -- What a recovered image shows, and the bounds of what recovery reads.
-use Prim.Native.Nat.{ℕ, zero, suc, _+_, _*_, _-_, _≤_, _<_, max, min}
-use mathlib.Core.Path.{_≡_, refl, sym, ap, _∙_}
+use Prim.Native.Nat.{ℕ, zero, suc, _+_, _*_, _≤_, _<_}
+use mathlib.Core.Path.{_≡_, refl, _∙_}
 use mathlib.Core.Logic.{_≢_}
-use mathlib.Core.Bool.{Bool, true, false, cond, _&&_, not}
+use mathlib.Core.Bool.{Bool, true, false, _&&_, not}
 use mathlib.Core.List.{List}
 use native.Mathlib.Omega.{arith}
 use native.Mathlib.Decide.{ℕ-discrete}
-use lib.Dec.{eqb, leb, ltb}
+use lib.Dec.{ltb}
 use lib.ListN.{length, getD}
-use borrow.Author.Tests.{leb-true, leb-false, ltb-true, ltb-false, eqb-true, eqb-false, le-leb, lt-ltb, le-ltb, lt-leb, eq-eqb, ne-eqb, not-true}
+use borrow.Author.Tests.{leb-true, ltb-true, eqb-false, le-leb, lt-leb, eq-eqb, ne-eqb, not-true}
 use lib.Seq.{getD-set-other}
 use Rattle.rules.specs.declared.Cell.{Cell}
 use Rattle.rules.specs.Upto.{maxTo}
-use Rattle.rules.specs.Record.{cell}
 use Rattle.rules.specs.Memory.{cellAt, copyAt, closedAt, setTail, tailAt, size, cellsTo, copiesTo}
 use Rattle.rules.specs.Table.{blank}
 use Rattle.rules.specs.Cut.{passMark, queued, tailTo, headTo, tailOf, headOf, mended, recovered}
 use Rattle.rules.specs.Facts.{SoundCell, SoundImage}
 use Rattle.rules.proofs.Tests.{cond-cases, both}
-use Rattle.rules.proofs.Memory.{length-setTail, length-cellsTo, length-copiesTo, cell-tail, cells-at, copies-cell, copy-tail, copies-at, closed-tail, tail-same, number-cells, number-copies}
+use Rattle.rules.proofs.Memory.{length-setTail, length-cellsTo, length-copiesTo, cell-tail, cells-at, copies-cell, copy-tail, copies-at, tail-same, number-cells, number-copies}
 
 -- the largest of several numbers
 pub max-over : (f : ℕ → ℕ) (k j : ℕ) → j < k → f j ≤ maxTo f k

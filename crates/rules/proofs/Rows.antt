@@ -1,27 +1,27 @@
 -- Each row keeps the ring's numbers, its thread and the running image sound.
-use Prim.Native.Nat.{ℕ, zero, suc, _+_, _-_, _*_, _%_, _≤_, _<_, max}
-use mathlib.Core.Path.{_≡_, refl, sym, ap, _∙_}
-use mathlib.Core.Logic.{_≢_, _⊎_, inl, inr}
-use mathlib.Core.Bool.{Bool, true, false, cond, _&&_, _||_, not}
+use Prim.Native.Nat.{ℕ, _+_, _-_, _≤_, _<_}
+use mathlib.Core.Path.{_≡_, refl}
+use mathlib.Core.Logic.{_≢_, inl, inr}
+use mathlib.Core.Bool.{Bool, true, false, cond, _&&_, _||_}
 use mathlib.Core.List.{List}
 use native.Mathlib.Omega.{arith}
 use native.Mathlib.Nat.{mod-lt}
 use native.Mathlib.Decide.{ℕ-discrete}
 use lib.Dec.{eqb, leb, ltb}
 use lib.ListN.{length}
-use borrow.Author.Tests.{ltb-true, ltb-false, eqb-true, eqb-false, leb-true, leb-false, lt-ltb}
+use borrow.Author.Tests.{eqb-true, eqb-false, lt-ltb}
 use Rattle.rules.specs.declared.Line.{Line}
-use Rattle.rules.specs.declared.Line.the-variants.{None, Copy, Tail, Cell as CellLine}
+use Rattle.rules.specs.declared.Line.the-variants.{Copy, Tail, Cell as CellLine}
 use Rattle.rules.specs.declared.Cell.{Cell}
 use Rattle.rules.specs.declared.Thread.{Thread}
 use Rattle.rules.specs.declared.Ring.{Ring}
 use Rattle.rules.specs.declared.Answer.{Answer}
-use Rattle.rules.specs.Record.{cell, idle}
-use Rattle.rules.specs.Memory.{cellAt, setCell, copyAt, setCopy, closedAt, setClosed, tailAt, setTail, size}
+use Rattle.rules.specs.Record.{idle}
+use Rattle.rules.specs.Memory.{setCell, setCopy, closedAt, setClosed, tailAt, setTail, size}
 use Rattle.rules.specs.Line.{isNone, lineExists}
 use Rattle.rules.specs.Places.{P1, P2, P3, P4, P5, P6, P7, P8, P9, P10, T1, T2, T3, T4, T5, T6, T7, T8, T9, T10}
-use Rattle.rules.specs.Table.{Step, step, to, drawing, looking, awaiting, trying, holding, spot, cellOf, same, matches, blank, givesUp, passedCell, rowWait, rowP1, rowP2, rowP3, rowP4, rowP5, rowP6, rowP7, rowP8, rowP9, rowP10, rowT1, rowT2, rowT3, rowT4, rowT5, rowT6, rowT7, rowT8, rowT9, rowT10, putRow, takeRow, row}
-use Rattle.rules.specs.Facts.{InRange, SoundRing, Busy, SoundThread, SoundCell, SoundImage}
+use Rattle.rules.specs.Table.{Step, step, to, drawing, looking, spot, cellOf, matches, blank, givesUp, passedCell, rowWait, rowP1, rowP2, rowP3, rowP4, rowP5, rowP6, rowP7, rowP8, rowP9, rowP10, rowT1, rowT2, rowT3, rowT4, rowT5, rowT6, rowT7, rowT8, rowT9, rowT10, putRow, takeRow, row}
+use Rattle.rules.specs.Facts.{SoundRing, Busy, SoundThread, SoundCell, SoundImage}
 use Rattle.rules.proofs.Tests.{cond-cases}
 use Rattle.rules.proofs.Memory.{length-setCell, length-setCopy, length-setClosed, length-setTail, cell-same, cell-other, cell-copy, cell-closed, cell-tail, copy-same, copy-other, copy-cell, copy-closed, copy-tail, closed-same, closed-cell, closed-copy, closed-tail, tail-same, tail-cell, tail-copy, tail-closed}
 

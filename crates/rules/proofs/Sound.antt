@@ -1,13 +1,12 @@
 -- The tests of soundness hold exactly where its facts do.
 use Prim.Native.Nat.{ℕ, _+_, _≤_, _<_}
-use mathlib.Core.Path.{_≡_, refl, sym, ap, _∙_}
-use mathlib.Core.Logic.{_≢_, _⊎_, inl, inr}
+use mathlib.Core.Path.{_≡_, refl, sym, _∙_}
+use mathlib.Core.Logic.{_≢_, inl, inr}
 use mathlib.Core.Bool.{Bool, true, false, cond, _&&_, _||_, not}
 use mathlib.Core.List.{List}
 use native.Mathlib.Omega.{arith}
 use native.Mathlib.Decide.{ℕ-discrete}
 use lib.Dec.{lit<, eqb, leb, ltb}
-use lib.ListN.{length}
 use borrow.Author.Tests.{leb-true, leb-false, ltb-true, ltb-false, eqb-true, eqb-false, le-leb, lt-ltb, le-ltb, lt-leb, eq-eqb, ne-eqb, not-false, not-true}
 use Rattle.rules.specs.declared.Line.{Line}
 use Rattle.rules.specs.declared.Line.the-variants.{None, Copy, Tail, Cell as CellLine}
@@ -15,16 +14,16 @@ use Rattle.rules.specs.declared.Cell.{Cell}
 use Rattle.rules.specs.declared.Thread.{Thread}
 use Rattle.rules.specs.declared.Ring.{Ring}
 use Rattle.rules.specs.declared.Control.{Control}
-use Rattle.rules.specs.Numbers.{inRange, runLimit}
+use Rattle.rules.specs.Numbers.{inRange}
 use Rattle.rules.specs.Upto.{allTo}
 use Rattle.rules.specs.Record.{idle, zeroCell, threadAt}
-use Rattle.rules.specs.Memory.{cellAt, copyAt, closedAt, tailAt, size}
-use Rattle.rules.specs.Line.{isNone, lineExists}
-use Rattle.rules.specs.Places.{P1, P10, T1, T10, putting, inTable}
+use Rattle.rules.specs.Memory.{cellAt, copyAt}
+use Rattle.rules.specs.Line.{isNone}
+use Rattle.rules.specs.Places.{P1, P10, T1, T10, putting}
 use Rattle.rules.specs.Table.{same, blank}
 use Rattle.rules.specs.Sound.{soundRing, allZero, soundNumber, soundBusy, soundThread, soundRecord, soundCell, soundImage}
 use Rattle.rules.specs.State.{State}
-use Rattle.rules.specs.Refusals.{unsound, short, keptRefusal}
+use Rattle.rules.specs.Refusals.{unsound}
 use Rattle.rules.specs.Facts.{InRange, SoundRing, Busy, SoundThread, SoundCell, SoundImage, SoundRecord, Sound}
 use Rattle.rules.proofs.Tests.{cond-cases, both, and-both, unrefused, all-at, at-all}
 

@@ -1,7 +1,7 @@
 -- Document 01, "Both sides of the edges": cases A to J as one table. Each row is what the definitions give and what the page says.
-use Prim.Native.Nat.{ℕ, zero, suc, _+_, _*_}
+use Prim.Native.Nat.{ℕ}
 use mathlib.Core.List.{List, [], _∷_, _++_}
-use mathlib.Core.Bool.{Bool, cond}
+use mathlib.Core.Bool.{cond}
 use lib.Dec.{eqb}
 use lib.ListN.{replicate}
 use Rattle.rules.specs.declared.Line.the-variants.{Copy, Tail, Cell as CellLine}
@@ -12,7 +12,6 @@ use Rattle.rules.specs.declared.Answer.the-variants.{Refused, Begun, Dre
 use Rattle.rules.specs.Memory.{size}
 use Rattle.rules.specs.Answers.{by, found}
 use Rattle.rules.specs.Cut.{Entry, entry, finds, queueOf}
-use Rattle.rules.specs.State.{State}
 use Rattle.rules.specs.Refusals.{keptRefusal}
 use Rattle.rules.specs.Events.{freshState, after, answers}
 

@@ -1,9 +1,8 @@
 -- Document 01, "Events": begin, step, write back, cut, as one function from state and event to state and answer; setup; runs.
-use Prim.Native.Nat.{ℕ, zero, suc}
+use Prim.Native.Nat.{ℕ}
 use mathlib.Core.List.{List, [], _∷_, map}
-use mathlib.Core.Bool.{Bool, cond}
+use mathlib.Core.Bool.{cond}
 use lib.Dec.{eqb}
-use lib.ListN.{replicate}
 use Rattle.rules.specs.declared.Line.{Line}
 use Rattle.rules.specs.declared.Thread.{Thread}
 use Rattle.rules.specs.declared.Control.{Control}
@@ -15,7 +14,7 @@ use Rattle.rules.specs.Record.{threadAt, withThread, withRing, counted, 
 use Rattle.rules.specs.Memory.{size, overTo, freshImage}
 use Rattle.rules.specs.Line.{carried, released}
 use Rattle.rules.specs.Places.{P1, T1}
-use Rattle.rules.specs.Table.{Step, row}
+use Rattle.rules.specs.Table.{row}
 use Rattle.rules.specs.Cut.{finds, recovered}
 use Rattle.rules.specs.State.{State, state, Out, out, accept}
 use Rattle.rules.specs.Refusals.{setupRefusal, unsound, ownRefusal}

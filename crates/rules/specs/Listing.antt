@@ -1,7 +1,7 @@
 -- Document 01, "Listing, reading, host": the listing of the kept queue, and host recovery.
 use Prim.Native.Nat.{ℕ}
 use mathlib.Core.List.{List, _++_, map}
-use mathlib.Core.Bool.{Bool, cond}
+use mathlib.Core.Bool.{cond}
 use lib.Dec.{eqb}
 use lib.ListN.{length, drop}
 use Rattle.rules.specs.Cut.{Entry, queueOf, recovered}

@@ -1,6 +1,6 @@
 -- Document 01, "Numbers and memory": the control record, a thread's record, idle, fresh.
 use Prim.Native.Nat.{ℕ, _+_}
-use mathlib.Core.Bool.{Bool, cond}
+use mathlib.Core.Bool.{cond}
 use lib.Dec.{ltb}
 use lib.ListN.{set, replicate, getD}
 use Rattle.rules.specs.declared.Line.the-variants.{None}

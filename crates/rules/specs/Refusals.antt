@@ -4,7 +4,6 @@ use mathlib.Core.List.{List}
 use mathlib.Core.Bool.{Bool, cond, _&&_, not}
 use lib.Dec.{eqb, ltb, leb}
 use lib.ListN.{length}
-use Rattle.rules.specs.declared.Line.{Line}
 use Rattle.rules.specs.declared.Control.{Control}
 use Rattle.rules.specs.declared.Event.{Event}
 use Rattle.rules.specs.declared.Event.the-variants.{Put, Take, Go, Back, Cut}

@@ -1,7 +1,7 @@
 -- The state that an event is given, and what it leaves: document 01's record and its two images.
 use Prim.Native.Nat.{ℕ}
 use mathlib.Core.List.{List}
-use mathlib.Core.Bool.{Bool, cond}
+use mathlib.Core.Bool.{cond}
 use lib.Dec.{eqb}
 use Rattle.rules.specs.declared.Control.{Control}
 use Rattle.rules.specs.declared.Answer.{Answer}

@@ -1,7 +1,7 @@
 -- Document 01, "Events": the step table, one definition for each row, in the page's order.
 use Prim.Native.Nat.{ℕ, _+_, _-_, _%_, max}
 use mathlib.Core.List.{List}
-use mathlib.Core.Bool.{Bool, true, cond, _&&_, _||_}
+use mathlib.Core.Bool.{Bool, cond, _&&_, _||_}
 use lib.Dec.{eqb, ltb, leb}
 use Rattle.rules.specs.declared.Line.{Line}
 use Rattle.rules.specs.declared.Line.the-variants.{Copy, Tail, Cell as CellLine}

@@ -1,9 +1,6 @@
 use borrow.Author.Needs.{needs}
 use Rattle.rules.proofs.Control.fresh.Statement.{statement}
 use Rattle.rules.proofs.Control.fresh.Tie as tie
-use Rattle.rules.proofs.Control.fresh.Reads as reads
-use Rattle.rules.proofs.Control.fresh.Lts as lts
-use Rattle.rules.proofs.Thread.idle.Reads as idle-reads
 
 -- src/lib.rt:187:13
 idle-requires : tie.Need-idle-requires

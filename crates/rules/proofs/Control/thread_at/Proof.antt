@@ -5,9 +5,6 @@ use Rattle.rules.specs.Record.{threadAt, idle}
 use borrow.Author.Needs.{needs}
 use Rattle.rules.proofs.Control.thread_at.Statement.{statement}
 use Rattle.rules.proofs.Control.thread_at.Tie as tie
-use Rattle.rules.proofs.Control.thread_at.Reads as reads
-use Rattle.rules.proofs.Control.thread_at.Lts as lts
-use Rattle.rules.proofs.Thread.idle.Reads as idle-reads
 
 -- src/lib.rt:206:20
 mul-result : tie.Need-mul-result

@@ -6,8 +6,6 @@ use Rattle.rules.specs.Record.{withThread}
 use borrow.Author.Needs.{needs}
 use Rattle.rules.proofs.Control.with_thread.Statement.{statement}
 use Rattle.rules.proofs.Control.with_thread.Tie as tie
-use Rattle.rules.proofs.Control.with_thread.Reads as reads
-use Rattle.rules.proofs.Control.with_thread.Lts as lts
 
 -- src/lib.rt:217:13
 mul-t : tie.Need-mul-t

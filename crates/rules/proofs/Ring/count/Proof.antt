@@ -3,8 +3,6 @@ use Rattle.rules.specs.Record.{countedAt}
 use borrow.Author.Needs.{needs}
 use Rattle.rules.proofs.Ring.count.Statement.{statement}
 use Rattle.rules.proofs.Ring.count.Tie as tie
-use Rattle.rules.proofs.Ring.count.Reads as reads
-use Rattle.rules.proofs.Ring.count.Lts as lts
 
 -- src/lib.rt:159:27
 add-self : tie.Need-add-self

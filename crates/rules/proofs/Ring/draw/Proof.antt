@@ -3,8 +3,6 @@ use Rattle.rules.specs.Record.{drawnAt}
 use borrow.Author.Needs.{needs}
 use Rattle.rules.proofs.Ring.draw.Statement.{statement}
 use Rattle.rules.proofs.Ring.draw.Tie as tie
-use Rattle.rules.proofs.Ring.draw.Reads as reads
-use Rattle.rules.proofs.Ring.draw.Lts as lts
 
 -- src/lib.rt:170:25
 add-self : tie.Need-add-self
