@@ -15,3 +15,7 @@ pub mod Events
 pub mod Listing
 pub mod Reader
 pub mod Cases
+pub mod Account
+pub mod Agreement
+pub mod Tale
+pub mod Demand3
