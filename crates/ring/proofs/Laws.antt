@@ -19,7 +19,9 @@ use Rattle.rules.specs.declared.Thread.{Thread}
 use Rattle.rules.specs.declared.Ring.{Ring}
 use Rattle.rules.specs.declared.Answer.the-variants.{SawHead}
 use Rattle.rules.specs.Upto.{countTo}
-use Rattle.rules.specs.Answers.{by}
+use Rattle.rules.specs.declared.Answer.{Answer}
+use Rattle.rules.specs.State.{State, Out, out}
+use Rattle.rules.specs.Answers.{by, numbers}
 use Rattle.rules.specs.Table.{step, trying, givesUp, rowP8}
 
 -- P8: tries and place by one test
@@ -80,3 +82,7 @@ setup-of R n S running kept h =
     let b = unrefused (short R n running) 10 last (lit< tt) (a .1) in
     let d = unrefused (short R n kept) 10 0 (lit< tt) (b .1) in
     (range-of R n S (not-false (inRange R n S) (a .0)), ltb-false (length running) (size R n) (b .0), ltb-false (length kept) (size R n) (d .0))
+
+-- what is left as an equation, and the answer by its number and values
+pub told : {s : State} {a : Answer} {o : Out} → out s a ≡ o → (out s a ≡ o) × (numbers a ≡ numbers (o .answer))
+told e = (e, ap (λ (x : Out). numbers (x .answer)) e)

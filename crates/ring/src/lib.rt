@@ -18,6 +18,7 @@ use rules::Event;
 use rules::Line;
 use rules::Outcome;
 ghost use mathlib.Core.Path.{_≡_};
+ghost use Rattle.rules.specs.Answers.{numbers};
 ghost use Rattle.rules.specs.State.{state, out};
 ghost use Rattle.rules.specs.Refusals.{setupRefusal, keptRefusal, listingRefusal};
 ghost use Rattle.rules.specs.Events.{event, setup};
@@ -49,6 +50,7 @@ pub fn setup(cells: u32, threads: u32, tries: u32, running: &mut [u32], kept: &m
 // Any event.
 pub fn event(control: Control, running: &mut [u32], kept: &mut [u32], e: Event) -> Outcome
     ensures { λ r. ⌜ out (state (r .control) (now (running .exit)) (now (kept .exit))) (r .answer) ≡ event (state control (now (running .entry)) (now (kept .entry))) e ⌝ }
+    ensures { λ r. ⌜ numbers (r .answer) ≡ numbers (event (state control (now (running .entry)) (now (kept .entry))) e .answer) ⌝ }
 {
     let k = refusals::unsound(control, running, kept);
     if k != 0 {
@@ -63,6 +65,7 @@ pub fn event(control: Control, running: &mut [u32], kept: &mut [u32], e: Event) 
 // Begin a put.
 pub fn put(control: Control, running: &[u32], kept: &[u32], thread: u32, item: u32) -> Outcome
     ensures { λ r. ⌜ out (state (r .control) (now (running .entry)) (now (kept .entry))) (r .answer) ≡ event (state control (now (running .entry)) (now (kept .entry))) (Event.Put thread item) ⌝ }
+    ensures { λ r. ⌜ numbers (r .answer) ≡ numbers (event (state control (now (running .entry)) (now (kept .entry))) (Event.Put thread item) .answer) ⌝ }
 {
     let k = refusals::unsound(control, running, kept);
     if k != 0 {
@@ -77,6 +80,7 @@ pub fn put(control: Control, running: &[u32], kept: &[u32], thread: u32, item: u
 // Begin a take.
 pub fn take(control: Control, running: &[u32], kept: &[u32], thread: u32) -> Outcome
     ensures { λ r. ⌜ out (state (r .control) (now (running .entry)) (now (kept .entry))) (r .answer) ≡ event (state control (now (running .entry)) (now (kept .entry))) (Event.Take thread) ⌝ }
+    ensures { λ r. ⌜ numbers (r .answer) ≡ numbers (event (state control (now (running .entry)) (now (kept .entry))) (Event.Take thread) .answer) ⌝ }
 {
     let k = refusals::unsound(control, running, kept);
     if k != 0 {
@@ -91,6 +95,7 @@ pub fn take(control: Control, running: &[u32], kept: &[u32], thread: u32) -> Out
 // Step a thread.
 pub fn go(control: Control, running: &mut [u32], kept: &[u32], thread: u32) -> Outcome
     ensures { λ r. ⌜ out (state (r .control) (now (running .exit)) (now (kept .entry))) (r .answer) ≡ event (state control (now (running .entry)) (now (kept .entry))) (Event.Go thread) ⌝ }
+    ensures { λ r. ⌜ numbers (r .answer) ≡ numbers (event (state control (now (running .entry)) (now (kept .entry))) (Event.Go thread) .answer) ⌝ }
 {
     let k = refusals::unsound(control, running, kept);
     if k != 0 {
@@ -105,6 +110,7 @@ pub fn go(control: Control, running: &mut [u32], kept: &[u32], thread: u32) -> O
 // Write back a line.
 pub fn back(control: Control, running: &[u32], kept: &mut [u32], line: Line) -> Outcome
     ensures { λ r. ⌜ out (state (r .control) (now (running .entry)) (now (kept .exit))) (r .answer) ≡ event (state control (now (running .entry)) (now (kept .entry))) (Event.Back line) ⌝ }
+    ensures { λ r. ⌜ numbers (r .answer) ≡ numbers (event (state control (now (running .entry)) (now (kept .entry))) (Event.Back line) .answer) ⌝ }
 {
     let k = refusals::unsound(control, running, kept);
     if k != 0 {
@@ -119,6 +125,7 @@ pub fn back(control: Control, running: &[u32], kept: &mut [u32], line: Line) -> 
 // A power cut.
 pub fn cut(control: Control, running: &mut [u32], kept: &mut [u32]) -> Outcome
     ensures { λ r. ⌜ out (state (r .control) (now (running .exit)) (now (kept .exit))) (r .answer) ≡ event (state control (now (running .entry)) (now (kept .entry))) Event.Cut ⌝ }
+    ensures { λ r. ⌜ numbers (r .answer) ≡ numbers (event (state control (now (running .entry)) (now (kept .entry))) Event.Cut .answer) ⌝ }
 {
     let k = refusals::unsound(control, running, kept);
     if k != 0 {
