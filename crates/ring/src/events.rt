@@ -51,6 +51,7 @@ fn begin(c: Control, i: u32, place: u32, item: u32) -> Control
     count(c.with_thread(i, t))
 }
 
+// Begins a put.
 pub fn put(c: Control, running: &[u32], kept: &[u32], i: u32, x: u32) -> Outcome
     requires { ⌜ Sound (state c (now running) (now kept)) ⌝ }
     ensures { λ r. ⌜ out (state (r .control) (now (running .entry)) (now (kept .entry))) (r .answer) ≡ inner (state c (now (running .entry)) (now (kept .entry))) (Put i x) ⌝ }
@@ -69,6 +70,7 @@ pub fn put(c: Control, running: &[u32], kept: &[u32], i: u32, x: u32) -> Outcome
     }
 }
 
+// Begins a take.
 pub fn take(c: Control, running: &[u32], kept: &[u32], i: u32) -> Outcome
     requires { ⌜ Sound (state c (now running) (now kept)) ⌝ }
     ensures { λ r. ⌜ out (state (r .control) (now (running .entry)) (now (kept .entry))) (r .answer) ≡ inner (state c (now (running .entry)) (now (kept .entry))) (Take i) ⌝ }
@@ -88,7 +90,7 @@ pub fn take(c: Control, running: &[u32], kept: &[u32], i: u32) -> Outcome
     }
 }
 
-// One row of the step table.
+// One row of the step table. A busy thread of a sound record has one of the twenty places, so the last arm is never taken.
 fn row(g: Ring, who: u32, t: Thread, m: &mut [u32]) -> Moved
     requires { ⌜ Ready g who t (now m) × (g .events < runLimit) ⌝ }
     ensures { λ r. ⌜ leaves r (now (m .exit)) ≡ row g who t (now (m .entry)) ⌝ }
@@ -105,6 +107,7 @@ fn row(g: Ring, who: u32, t: Thread, m: &mut [u32]) -> Moved
     }
 }
 
+// Steps a thread.
 pub fn go(c: Control, running: &mut [u32], kept: &[u32], i: u32) -> Outcome
     requires { ⌜ Sound (state c (now running) (now kept)) ⌝ }
     ensures { λ r. ⌜ out (state (r .control) (now (running .exit)) (now (kept .entry))) (r .answer) ≡ inner (state c (now (running .entry)) (now (kept .entry))) (Go i) ⌝ }
@@ -127,6 +130,7 @@ pub fn go(c: Control, running: &mut [u32], kept: &[u32], i: u32) -> Outcome
     Outcome { control: d, answer }
 }
 
+// The line carries cell i.
 fn carries_cell(line: Line, i: u32) -> bool
     ensures { λ r. ⌜ r ≡ carriesCell line i ⌝ }
 {
@@ -138,6 +142,7 @@ fn carries_cell(line: Line, i: u32) -> bool
     }
 }
 
+// The line carries thread i's copy.
 fn carries_copy(line: Line, i: u32) -> bool
     ensures { λ r. ⌜ r ≡ carriesCopy line i ⌝ }
 {
@@ -149,6 +154,7 @@ fn carries_copy(line: Line, i: u32) -> bool
     }
 }
 
+// The line carries closed and Tail.
 fn carries_tail(line: Line) -> bool
     ensures { λ r. ⌜ r ≡ carriesTail line ⌝ }
 {
@@ -220,6 +226,7 @@ fn carry(cells: u32, threads: u32, line: Line, running: &[u32], kept: &mut [u32]
     }
 }
 
+// Writes a line back.
 pub fn back(c: Control, running: &[u32], kept: &mut [u32], line: Line) -> Outcome
     requires { ⌜ Sound (state c (now running) (now kept)) ⌝ }
     ensures { λ r. ⌜ out (state (r .control) (now (running .entry)) (now (kept .exit))) (r .answer) ≡ inner (state c (now (running .entry)) (now (kept .entry))) (Back line) ⌝ }
@@ -251,6 +258,7 @@ fn after_cut(g: Ring, head: u32) -> Control
     c
 }
 
+// A power cut.
 pub fn cut(c: Control, running: &mut [u32], kept: &mut [u32]) -> Outcome
     requires { ⌜ Sound (state c (now running) (now kept)) ⌝ }
     ensures { λ r. ⌜ out (state (r .control) (now (running .exit)) (now (kept .exit))) (r .answer) ≡ inner (state c (now (running .entry)) (now (kept .entry))) Cut ⌝ }

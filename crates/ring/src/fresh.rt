@@ -29,6 +29,7 @@ fn all_cells(cells: u32, m: &mut [u32])
     }
 }
 
+// The whole image is fresh.
 pub fn image(cells: u32, threads: u32, m: &mut [u32])
     requires { ⌜ (cells ≤ maxCells) × (threads ≤ maxThreads) × (size cells threads ≤ length (now m)) ⌝ }
     ensures { λ _. ⌜ now (m .exit) ≡ freshImage cells threads (now (m .entry)) ⌝ }

@@ -57,6 +57,7 @@ pub fn copy_at(cells: u32, m: &[u32], t: u32) -> u32
     m[a]
 }
 
+// Thread t's local copy becomes v.
 pub fn set_copy(cells: u32, m: &mut [u32], t: u32, v: u32)
     requires { ⌜ (cells ≤ maxCells) × (t < maxThreads) × (4 * cells + t < length (now m)) ⌝ }
     ensures { λ _. ⌜ now (m .exit) ≡ setCopy cells (now (m .entry)) t v ⌝ }
@@ -65,6 +66,7 @@ pub fn set_copy(cells: u32, m: &mut [u32], t: u32, v: u32)
     m[a] = v;
 }
 
+// Closed.
 pub fn closed_at(cells: u32, threads: u32, m: &[u32]) -> u32
     requires { ⌜ (cells ≤ maxCells) × (threads ≤ maxThreads) × (size cells threads ≤ length (now m)) ⌝ }
     ensures { λ r. ⌜ r ≡ closedAt cells threads (now (m .entry)) ⌝ }
@@ -73,6 +75,7 @@ pub fn closed_at(cells: u32, threads: u32, m: &[u32]) -> u32
     m[a]
 }
 
+// Closed becomes v.
 pub fn set_closed(cells: u32, threads: u32, m: &mut [u32], v: u32)
     requires { ⌜ (cells ≤ maxCells) × (threads ≤ maxThreads) × (size cells threads ≤ length (now m)) ⌝ }
     ensures { λ _. ⌜ now (m .exit) ≡ setClosed cells threads (now (m .entry)) v ⌝ }
@@ -81,6 +84,7 @@ pub fn set_closed(cells: u32, threads: u32, m: &mut [u32], v: u32)
     m[a] = v;
 }
 
+// Tail.
 pub fn tail_at(cells: u32, threads: u32, m: &[u32]) -> u32
     requires { ⌜ (cells ≤ maxCells) × (threads ≤ maxThreads) × (size cells threads ≤ length (now m)) ⌝ }
     ensures { λ r. ⌜ r ≡ tailAt cells threads (now (m .entry)) ⌝ }
@@ -89,6 +93,7 @@ pub fn tail_at(cells: u32, threads: u32, m: &[u32]) -> u32
     m[a]
 }
 
+// Tail becomes v.
 pub fn set_tail(cells: u32, threads: u32, m: &mut [u32], v: u32)
     requires { ⌜ (cells ≤ maxCells) × (threads ≤ maxThreads) × (size cells threads ≤ length (now m)) ⌝ }
     ensures { λ _. ⌜ now (m .exit) ≡ setTail cells threads (now (m .entry)) v ⌝ }

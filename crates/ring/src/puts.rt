@@ -15,6 +15,7 @@ ghost use Prim.Native.Nat.{ℕ, _<_};
 ghost use Rattle.rules.specs.Facts.{Ready, SoundRing};
 ghost use Rattle.rules.specs.Table.{leaves, trying, rowP1, rowP2, rowP3, rowP4, rowP5, rowP6, rowP7, rowP8, rowP9, rowP10, putRow};
 
+// P1: draws Tail.
 fn p1(g: Ring, who: u32, t: Thread, m: &mut [u32]) -> Moved
     requires { ⌜ Ready g who t (now m) ⌝ }
     ensures { λ r. ⌜ leaves r (now (m .exit)) ≡ rowP1 g who t (now (m .entry)) ⌝ }
@@ -33,6 +34,7 @@ fn p1(g: Ring, who: u32, t: Thread, m: &mut [u32]) -> Moved
     }
 }
 
+// P2: looks at the cell.
 fn p2(g: Ring, who: u32, t: Thread, m: &[u32]) -> Moved
     requires { ⌜ Ready g who t (now m) ⌝ }
     ensures { λ r. ⌜ leaves r (now (m .entry)) ≡ rowP2 g who t (now (m .entry)) ⌝ }
@@ -54,6 +56,7 @@ fn p2(g: Ring, who: u32, t: Thread, m: &[u32]) -> Moved
     }
 }
 
+// P3: compares Head.
 fn p3(g: Ring, who: u32, t: Thread) -> Moved
     ensures { λ r. ⌜ ((m : List ℕ) → leaves r m ≡ rowP3 g who t m) ⌝ }
 {
@@ -71,6 +74,7 @@ fn p3(g: Ring, who: u32, t: Thread) -> Moved
     }
 }
 
+// P4: lands, if the cell still matches.
 fn p4(g: Ring, who: u32, t: Thread, m: &mut [u32]) -> Moved
     requires { ⌜ Ready g who t (now m) ⌝ }
     ensures { λ r. ⌜ leaves r (now (m .exit)) ≡ rowP4 g who t (now (m .entry)) ⌝ }
@@ -109,6 +113,7 @@ fn p4(g: Ring, who: u32, t: Thread, m: &mut [u32]) -> Moved
     }
 }
 
+// P5: asks for the cell.
 fn p5(g: Ring, who: u32, t: Thread) -> Moved
     requires { ⌜ 0 < g .cells ⌝ }
     ensures { λ r. ⌜ ((m : List ℕ) → leaves r m ≡ rowP5 g who t m) ⌝ }
@@ -125,6 +130,7 @@ fn p5(g: Ring, who: u32, t: Thread) -> Moved
     }
 }
 
+// P6: waits, then OK.
 fn p6(g: Ring, who: u32, t: Thread) -> Moved
     ensures { λ r. ⌜ ((m : List ℕ) → leaves r m ≡ rowP6 g who t m) ⌝ }
 {
@@ -135,6 +141,7 @@ fn p6(g: Ring, who: u32, t: Thread) -> Moved
     rows::wait(g, who, t, Answer::Ok(by, t.item))
 }
 
+// P7: asks for the Tail line.
 fn p7(g: Ring, who: u32, t: Thread) -> Moved
     ensures { λ r. ⌜ ((m : List ℕ) → leaves r m ≡ rowP7 g who t m) ⌝ }
 {
@@ -159,6 +166,7 @@ fn tried(t: Thread, tries: u32, place: u32) -> Thread
     n
 }
 
+// P8: tries again, or gives up.
 fn p8(g: Ring, who: u32, t: Thread) -> Moved
     requires { ⌜ SoundRing g × (t .tries < g .tries) ⌝ }
     ensures { λ r. ⌜ ((m : List ℕ) → leaves r m ≡ rowP8 g who t m) ⌝ }
@@ -182,6 +190,7 @@ fn p8(g: Ring, who: u32, t: Thread) -> Moved
     }
 }
 
+// P9: sets closed.
 fn p9(g: Ring, who: u32, t: Thread, m: &mut [u32]) -> Moved
     requires { ⌜ Ready g who t (now m) ⌝ }
     ensures { λ r. ⌜ leaves r (now (m .exit)) ≡ rowP9 g who t (now (m .entry)) ⌝ }
@@ -198,6 +207,7 @@ fn p9(g: Ring, who: u32, t: Thread, m: &mut [u32]) -> Moved
     }
 }
 
+// P10: waits, then CLOSED.
 fn p10(g: Ring, who: u32, t: Thread) -> Moved
     ensures { λ r. ⌜ ((m : List ℕ) → leaves r m ≡ rowP10 g who t m) ⌝ }
 {

@@ -7,6 +7,7 @@ ghost use mathlib.Core.List.{[]};
 ghost use Rattle.rules.specs.Memory.{cellNumbers};
 ghost use Rattle.rules.specs.Reader.{readable, cellPart};
 
+// R is in range, the cell is one of R, and the image has them all.
 fn is_readable(cells: u32, cell: u32, m: &[u32]) -> bool
     ensures { λ r. ⌜ r ≡ readable cells cell (now (m .entry)) ⌝ }
 {

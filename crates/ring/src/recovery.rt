@@ -12,6 +12,7 @@ ghost use Rattle.rules.specs.Memory.{size, cellAt, copyAt, cellsTo, copiesTo};
 ghost use Rattle.rules.specs.Cut.{passMark, queued, tailOf, headTo, headOf, countOf, finds, mended, recovered};
 ghost use Rattle.rules.specs.Facts.{InRange, SoundCell, SoundImage};
 
+// The largest mark.
 fn top_mark(cells: u32, m: &[u32]) -> u32
     requires { ⌜ (cells ≤ maxCells) × (4 * cells ≤ length (now m)) ⌝ }
     ensures { λ r. ⌜ r ≡ maxTo (λ j. cellAt cells (now (m .entry)) j .mark) cells ⌝ }
@@ -24,6 +25,7 @@ fn top_mark(cells: u32, m: &[u32]) -> u32
     top
 }
 
+// The largest copy.
 fn top_copy(cells: u32, threads: u32, m: &[u32]) -> u32
     requires { ⌜ (cells ≤ maxCells) × (threads ≤ maxThreads) × (4 * cells + threads ≤ length (now m)) ⌝ }
     ensures { λ r. ⌜ r ≡ maxTo (copyAt cells (now (m .entry))) threads ⌝ }
@@ -52,6 +54,7 @@ pub fn is_queued(mark: u32, c: Cell) -> bool
     choose::both(c.item != 0, mark <= c.index)
 }
 
+// The largest queued index + 1, or the pass mark.
 fn tail_of(cells: u32, mark: u32, m: &[u32]) -> u32
     requires { ⌜ (cells ≤ maxCells) × (4 * cells ≤ length (now m)) × ((j : ℕ) → j < cells → cellAt cells (now m) j .index < runLimit + maxCells) ⌝ }
     ensures { λ r. ⌜ r ≡ tailOf cells mark (now (m .entry)) ⌝ }
@@ -64,6 +67,7 @@ fn tail_of(cells: u32, mark: u32, m: &[u32]) -> u32
     tail
 }
 
+// The smallest queued index, or Tail.
 fn head_of(cells: u32, mark: u32, tail: u32, m: &[u32]) -> u32
     requires { ⌜ (cells ≤ maxCells) × (4 * cells ≤ length (now m)) ⌝ }
     ensures { λ r. ⌜ r ≡ headTo cells mark tail (now (m .entry)) cells ⌝ }
@@ -76,6 +80,7 @@ fn head_of(cells: u32, mark: u32, tail: u32, m: &[u32]) -> u32
     head
 }
 
+// How many cells are queued.
 fn count_of(cells: u32, mark: u32, m: &[u32]) -> u32
     requires { ⌜ (cells ≤ maxCells) × (4 * cells ≤ length (now m)) ⌝ }
     ensures { λ r. ⌜ r ≡ countOf cells mark (now (m .entry)) ⌝ }
@@ -105,6 +110,7 @@ pub fn find(cells: u32, threads: u32, m: &[u32]) -> Found
     }
 }
 
+// A cell as recovery leaves it.
 fn mend(cells: u32, mark: u32, head: u32, c: Cell) -> Cell
     requires { ⌜ (cells ≤ maxCells) × (c .index < runLimit + maxCells) ⌝ }
     ensures { λ r. ⌜ r ≡ mended cells mark head c ⌝ }
@@ -125,6 +131,7 @@ fn mend(cells: u32, mark: u32, head: u32, c: Cell) -> Cell
     }
 }
 
+// All cells as recovery leaves them.
 fn mend_cells(cells: u32, mark: u32, head: u32, m: &mut [u32])
     requires { ⌜ (cells ≤ maxCells) × (4 * cells ≤ length (now m)) × ((j : ℕ) → j < cells → cellAt cells (now m) j .index < runLimit + maxCells) ⌝ }
     ensures { λ _. ⌜ now (m .exit) ≡ cellsTo cells (λ j. mended cells mark head) (now (m .entry)) cells ⌝ }
@@ -136,6 +143,7 @@ fn mend_cells(cells: u32, mark: u32, head: u32, m: &mut [u32])
     }
 }
 
+// Every copy becomes v.
 pub fn set_copies(cells: u32, threads: u32, v: u32, m: &mut [u32])
     requires { ⌜ (cells ≤ maxCells) × (threads ≤ maxThreads) × (4 * cells + threads ≤ length (now m)) ⌝ }
     ensures { λ _. ⌜ now (m .exit) ≡ copiesTo cells v (now (m .entry)) threads ⌝ }

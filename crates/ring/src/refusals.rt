@@ -12,6 +12,7 @@ ghost use Rattle.rules.specs.declared.Event.the-variants.{Put, Take, Go, Back, 
 ghost use Rattle.rules.specs.State.{state};
 ghost use Rattle.rules.specs.Refusals.{setupRefusal, unsound, ownRefusal, keptRefusal, listingRefusal};
 
+// Setup.
 pub fn of_setup(cells: u32, threads: u32, tries: u32, running: &[u32], kept: &[u32]) -> u32
     ensures { λ r. ⌜ r ≡ setupRefusal cells threads tries (now (running .entry)) (now (kept .entry)) ⌝ }
 {
@@ -145,6 +146,7 @@ pub fn of_kept(cells: u32, threads: u32, tries: u32, events: u32, kept: &[u32]) 
     0
 }
 
+// The listing, with room for so many numbers.
 pub fn of_listing(
     cells: u32,
     threads: u32,

@@ -29,6 +29,7 @@ pub fn in_range(cells: u32, threads: u32, tries: u32) -> bool
     choose::both(1 <= cells, choose::both(cells <= Control::MAX_CELLS, n))
 }
 
+// The ring's numbers are sound.
 fn sound_ring(g: Ring) -> bool
     ensures { λ r. ⌜ r ≡ soundRing g ⌝ }
 {
@@ -48,6 +49,7 @@ pub fn line_exists(cells: u32, threads: u32, line: Line) -> bool
     }
 }
 
+// All fields are zero or none.
 fn all_zero(t: Thread) -> bool
     ensures { λ r. ⌜ r ≡ allZero t ⌝ }
 {
@@ -69,6 +71,7 @@ fn all_zero(t: Thread) -> bool
     )
 }
 
+// A number below the event count; at P1 and T1 zero will do.
 fn sound_number(g: Ring, t: Thread) -> bool
     ensures { λ r. ⌜ r ≡ soundNumber g t ⌝ }
 {
@@ -76,6 +79,7 @@ fn sound_number(g: Ring, t: Thread) -> bool
     choose::either(t.number < g.events, choose::both(first, t.number == 0))
 }
 
+// A busy thread is sound.
 fn sound_busy(g: Ring, t: Thread) -> bool
     ensures { λ r. ⌜ r ≡ soundBusy g t ⌝ }
 {
@@ -90,6 +94,7 @@ fn sound_busy(g: Ring, t: Thread) -> bool
     )
 }
 
+// Thread i is sound.
 fn sound_thread(g: Ring, i: u32, t: Thread) -> bool
     ensures { λ r. ⌜ r ≡ soundThread g i t ⌝ }
 {
@@ -99,6 +104,7 @@ fn sound_thread(g: Ring, i: u32, t: Thread) -> bool
     sound_busy(g, t)
 }
 
+// The control record is sound.
 pub fn sound_record(c: Control) -> bool
     ensures { λ r. ⌜ r ≡ soundRecord c ⌝ }
 {
@@ -111,6 +117,7 @@ pub fn sound_record(c: Control) -> bool
     choose::both(sound_ring(g), ok)
 }
 
+// A cell is sound.
 fn sound_cell(cells: u32, events: u32, c: Cell) -> bool
     requires { ⌜ (cells ≤ maxCells) × (events ≤ runLimit) ⌝ }
     ensures { λ r. ⌜ r ≡ soundCell cells events c ⌝ }
@@ -119,6 +126,7 @@ fn sound_cell(cells: u32, events: u32, c: Cell) -> bool
     choose::both(c.safe <= 1, choose::both(c.mark <= events, c.index < bound))
 }
 
+// All cells are sound.
 fn sound_cells(cells: u32, events: u32, m: &[u32]) -> bool
     requires { ⌜ (cells ≤ maxCells) × (events ≤ runLimit) × (4 * cells ≤ length (now m)) ⌝ }
     ensures { λ r. ⌜ r ≡ allTo (λ j. soundCell cells events (cellAt cells (now (m .entry)) j)) cells ⌝ }
@@ -131,6 +139,7 @@ fn sound_cells(cells: u32, events: u32, m: &[u32]) -> bool
     ok
 }
 
+// All copies are sound.
 fn sound_copies(cells: u32, threads: u32, events: u32, m: &[u32]) -> bool
     requires { ⌜ (cells ≤ maxCells) × (threads ≤ maxThreads) × (4 * cells + threads ≤ length (now m)) ⌝ }
     ensures { λ r. ⌜ r ≡ allTo (λ t. leb (copyAt cells (now (m .entry)) t) events) threads ⌝ }
@@ -143,6 +152,7 @@ fn sound_copies(cells: u32, threads: u32, events: u32, m: &[u32]) -> bool
     ok
 }
 
+// An image is sound.
 pub fn sound_image(cells: u32, threads: u32, events: u32, m: &[u32]) -> bool
     requires { ⌜ (cells ≤ maxCells) × (threads ≤ maxThreads) × (events ≤ runLimit) × (size cells threads ≤ length (now m)) ⌝ }
     ensures { λ r. ⌜ r ≡ soundImage cells threads events (now (m .entry)) ⌝ }

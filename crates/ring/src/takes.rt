@@ -16,6 +16,7 @@ ghost use Rattle.rules.specs.Facts.{Ready};
 ghost use Rattle.rules.specs.Numbers.{runLimit};
 ghost use Rattle.rules.specs.Table.{leaves, holding, rowT1, rowT2, rowT3, rowT4, rowT5, rowT6, rowT7, rowT8, rowT9, rowT10, takeRow};
 
+// T1: draws Head.
 fn t1(g: Ring, who: u32, t: Thread) -> Moved
     requires { ⌜ g .head < runLimit ⌝ }
     ensures { λ r. ⌜ ((m : List ℕ) → leaves r m ≡ rowT1 g who t m) ⌝ }
@@ -33,6 +34,7 @@ fn t1(g: Ring, who: u32, t: Thread) -> Moved
     }
 }
 
+// T2: looks at the cell.
 fn t2(g: Ring, who: u32, t: Thread, m: &[u32]) -> Moved
     requires { ⌜ Ready g who t (now m) ⌝ }
     ensures { λ r. ⌜ leaves r (now (m .entry)) ≡ rowT2 g who t (now (m .entry)) ⌝ }
@@ -65,6 +67,7 @@ fn with_item(t: Thread, item: u32, place: u32) -> Thread
     n
 }
 
+// T3: takes, if the cell still matches.
 fn t3(g: Ring, who: u32, t: Thread, m: &mut [u32]) -> Moved
     requires { ⌜ Ready g who t (now m) ⌝ }
     ensures { λ r. ⌜ leaves r (now (m .exit)) ≡ rowT3 g who t (now (m .entry)) ⌝ }
@@ -103,6 +106,7 @@ fn t3(g: Ring, who: u32, t: Thread, m: &mut [u32]) -> Moved
     }
 }
 
+// T4: flags, if the cell still matches.
 fn t4(g: Ring, who: u32, t: Thread, m: &mut [u32]) -> Moved
     requires { ⌜ Ready g who t (now m) ⌝ }
     ensures { λ r. ⌜ leaves r (now (m .exit)) ≡ rowT4 g who t (now (m .entry)) ⌝ }
@@ -141,6 +145,7 @@ fn t4(g: Ring, who: u32, t: Thread, m: &mut [u32]) -> Moved
     }
 }
 
+// T5: passes, if the cell still matches.
 fn t5(g: Ring, who: u32, t: Thread, m: &mut [u32]) -> Moved
     requires { ⌜ Ready g who t (now m) ⌝ }
     ensures { λ r. ⌜ leaves r (now (m .exit)) ≡ rowT5 g who t (now (m .entry)) ⌝ }
@@ -179,6 +184,7 @@ fn t5(g: Ring, who: u32, t: Thread, m: &mut [u32]) -> Moved
     }
 }
 
+// T6: compares Tail.
 fn t6(g: Ring, who: u32, t: Thread, m: &[u32]) -> Moved
     requires { ⌜ Ready g who t (now m) ⌝ }
     ensures { λ r. ⌜ leaves r (now (m .entry)) ≡ rowT6 g who t (now (m .entry)) ⌝ }
@@ -198,6 +204,7 @@ fn t6(g: Ring, who: u32, t: Thread, m: &[u32]) -> Moved
     }
 }
 
+// T7: lifts Tail.
 fn t7(g: Ring, who: u32, t: Thread, m: &mut [u32]) -> Moved
     requires { ⌜ Ready g who t (now m) ⌝ }
     ensures { λ r. ⌜ leaves r (now (m .exit)) ≡ rowT7 g who t (now (m .entry)) ⌝ }
@@ -218,6 +225,7 @@ fn t7(g: Ring, who: u32, t: Thread, m: &mut [u32]) -> Moved
     }
 }
 
+// T8: sets its own copy of Head.
 fn t8(g: Ring, who: u32, t: Thread, m: &mut [u32]) -> Moved
     requires { ⌜ Ready g who t (now m) ⌝ }
     ensures { λ r. ⌜ leaves r (now (m .exit)) ≡ rowT8 g who t (now (m .entry)) ⌝ }
@@ -238,6 +246,7 @@ fn t8(g: Ring, who: u32, t: Thread, m: &mut [u32]) -> Moved
     }
 }
 
+// T9: asks for its own copy.
 fn t9(g: Ring, who: u32, t: Thread) -> Moved
     ensures { λ r. ⌜ ((m : List ℕ) → leaves r m ≡ rowT9 g who t m) ⌝ }
 {
@@ -252,6 +261,7 @@ fn t9(g: Ring, who: u32, t: Thread) -> Moved
     }
 }
 
+// T10: waits, then ITEM or EMPTY.
 fn t10(g: Ring, who: u32, t: Thread) -> Moved
     ensures { λ r. ⌜ ((m : List ℕ) → leaves r m ≡ rowT10 g who t m) ⌝ }
 {
