@@ -3,8 +3,10 @@
 pub mod account;
 pub mod answer;
 pub mod check;
+pub mod client;
 pub mod coverage;
 pub mod fates;
+pub mod images;
 pub mod machine;
 pub mod memory;
 pub mod play;

@@ -1,0 +1,11 @@
+pub mod Reading
+pub mod Decimal
+pub mod Number
+pub mod Numbers
+pub mod Grammar
+pub mod Printing
+pub mod Examples
+pub mod Stream
+pub mod Running
+pub mod Blocks
+pub mod Tied

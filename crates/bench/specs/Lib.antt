@@ -1,0 +1,11 @@
+pub mod Text
+pub mod Read
+pub mod Decimal
+pub mod Grammar
+pub mod Print
+pub mod Bench
+pub mod Stream
+pub mod Examples
+pub mod Unique
+pub mod Block
+pub mod Tied
