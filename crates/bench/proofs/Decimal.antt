@@ -8,7 +8,7 @@ use native.Mathlib.Omega.{arith}
 use lib.ListN.{length, length-append}
 use lib.Dec.{ltb, lit<}
 use borrow.Author.Tests.{lt-ltb, le-ltb, ltb-false}
-use Rattle.bench.specs.Decimal.{decimalIn, decimal}
+use Rattle.bench.specs.Decimal.{decimalIn, decimal, value, HasItsValue}
 
 -- the last digit, and the number without it
 pub tenth : (f n : ℕ) → n < 10 ^ suc f → n / 10 < 10 ^ f
@@ -57,29 +57,22 @@ pub length-small : (n : ℕ) → n ≤ 4294967295 → length (decimal n) ≤ 10
 unfolding decimal
 length-small n h = length-in 9 20 n (let p : n < 10000000000 = omega arith in p)
 
--- the value of digits, after digits that made v
-pub value : ℕ → List ℕ → ℕ
-value v [] = v
-value v (d ∷ ds) = value (v * 10 + (d - 48)) ds
-
+-- its value
 value-append : (v : ℕ) (a b : List ℕ) → value v (a ++ b) ≡ value (value v a) b
-unfolding value
 value-append v [] b = refl
 value-append v (d ∷ a) b = value-append (v * 10 + (d - 48)) a b
 
 value-by : (t : Bool) (f n : ℕ) → ltb n 10 ≡ t → (10 ≤ n → value 0 (decimalIn f (n / 10)) ≡ n / 10)
     → value 0 (cond t ((48 + n) ∷ []) (decimalIn f (n / 10) ++ ((48 + n % 10) ∷ []))) ≡ n
-unfolding value
 value-by true f n e a = omega arith
 value-by false f n e a =
     value-append 0 (decimalIn f (n / 10)) ((48 + n % 10) ∷ [])
     ∙ rw (a (ltb-false n 10 e)) (let q = div-add-mod' n 10 in omega arith)
 
 value-in : (f n : ℕ) → n < 10 ^ f → value 0 (decimalIn f n) ≡ n
-unfolding value
 value-in zero n h = let q = pow-zero 10 in omega arith
 value-in (suc f) n h = value-by (ltb n 10) f n refl (λ k. value-in f (n / 10) (tenth f n h))
 
-pub value-decimal : (n : ℕ) → n < 2 ^ 64 → value 0 (decimal n) ≡ n
+pub has-its-value : HasItsValue
 unfolding decimal
-value-decimal n h = value-in 20 n (let p : n < 100000000000000000000 = omega arith in p)
+has-its-value n h = value-in 20 n (let p : n < 100000000000000000000 = omega arith in p)

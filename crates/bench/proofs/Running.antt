@@ -1,59 +1,49 @@
 -- Laws of a line run over the ring.
-use Prim.Native.Nat.{ℕ, _<_, _≤_}
-use mathlib.Core.Path.{_≡_, refl, ap, sym, _∙_}
+use Prim.Native.Nat.{ℕ, _≤_}
+use mathlib.Core.Path.{_≡_, refl, ap, _∙_}
 use mathlib.Core.List.{List, [], _++_}
 use mathlib.Core.Bool.{Bool, true, false, cond, _&&_, not}
 use native.Mathlib.Omega.{arith}
 use lib.ListN.{length, take, drop, length-append, length-drop}
 use lib.Seq.{take-at}
 use lib.Dec.{eqb, leb}
-use borrow.Author.Tests.{eqb-true, eq-eqb, ne-eqb, leb-true, le-ltb}
+use borrow.Author.Tests.{eqb-true, eq-eqb, ne-eqb, leb-true, le-ltb, not-false}
 use Rattle.rules.specs.declared.Control.{Control}
 use Rattle.rules.specs.declared.Event.{Event}
 use Rattle.rules.specs.declared.Answer.{Answer}
+use Rattle.rules.specs.declared.Answer.the-variants.{Refused}
 use Rattle.rules.specs.Numbers.{inRange, runLimit}
 use Rattle.rules.specs.Sound.{soundRecord, soundRing, soundImage}
 use Rattle.rules.specs.Record.{zeroControl}
 use Rattle.rules.specs.State.{State, state, Out, out, accept}
-use Rattle.rules.specs.Refusals.{refuse, short, unsound, keptRefusal, listingRefusal, setupRefusal}
+use Rattle.rules.specs.Refusals.{short, unsound, keptRefusal, listingRefusal, setupRefusal}
 use Rattle.rules.specs.Listing.{items, inFront, listedCount, listedRoom}
 use Rattle.rules.specs.Events.{inner, event, setup}
+use Rattle.rules.proofs.Tests.{both, unrefused}
 use Rattle.bench.specs.declared.read.Command.the-variants.{Ring}
 use Rattle.bench.specs.declared.Phase.the-variants.{Running, Ended}
 use Rattle.bench.specs.Print.{saidOf, saidText}
 use Rattle.bench.specs.Bench.{run, runWith, benchOf, itemsOf, Lists, eventSays, refusedText, firstLine, firstSays}
 
 -- ---- a sound state's kept image can be listed
-refuse-none : (b : Bool) (k next : ℕ) → (k ≡ 0 → ⊥) → refuse b k next ≡ 0 → (b ≡ false) × (next ≡ 0)
-refuse-none true k next h e = absurd (h e)
-refuse-none false k next h e = (refl, e)
-
-not-none : (b : Bool) → not b ≡ false → b ≡ true
-not-none true e = refl
-not-none false e = sym e
-
-and-both : (a b : Bool) → (a && b) ≡ true → (a ≡ true) × (b ≡ true)
-and-both true b e = (refl, e)
-and-both false b e = let z : _≡_ {A = ℕ} 0 1 = ap (λ (x : Bool). cond x 1 0) e in absurd (omega arith)
-
 sound-kept : (s : State) → unsound s ≡ 0
     → (let g = s .control .ring in keptRefusal (g .cells) (g .threads) (g .tries) (g .events) (s .kept) ≡ 0)
 unfolding unsound keptRefusal soundRecord soundRing
 sound-kept s e =
     let g = s .control .ring in
-    let a = refuse-none (not (soundRecord (s .control))) 8 _ (λ z. omega arith) e in
-    let b = refuse-none (short (g .cells) (g .threads) (s .running)) 10 _ (λ z. omega arith) (a .1) in
-    let c = refuse-none (short (g .cells) (g .threads) (s .kept)) 10 _ (λ z. omega arith) (b .1) in
-    let d = refuse-none (not (soundImage (g .cells) (g .threads) (g .events) (s .running))) 12 _ (λ z. omega arith) (c .1) in
-    let f = refuse-none (not (soundImage (g .cells) (g .threads) (g .events) (s .kept))) 12 0 (λ z. omega arith) (d .1) in
-    let r = and-both (soundRing g) _ (not-none (soundRecord (s .control)) (a .0)) .0 in
-    let i = and-both (inRange (g .cells) (g .threads) (g .tries)) _ r in
-    let j = and-both (leb (g .events) runLimit) _ (i .1) in
+    let a = unrefused (not (soundRecord (s .control))) 8 _ (omega arith) e in
+    let b = unrefused (short (g .cells) (g .threads) (s .running)) 10 _ (omega arith) (a .1) in
+    let c = unrefused (short (g .cells) (g .threads) (s .kept)) 10 _ (omega arith) (b .1) in
+    let d = unrefused (not (soundImage (g .cells) (g .threads) (g .events) (s .running))) 12 _ (omega arith) (c .1) in
+    let f = unrefused (not (soundImage (g .cells) (g .threads) (g .events) (s .kept))) 12 0 (omega arith) (d .1) in
+    let r = both (soundRing g) _ (not-false (soundRecord (s .control)) (a .0)) .0 in
+    let i = both (inRange (g .cells) (g .threads) (g .tries)) _ r in
+    let j = both (leb (g .events) runLimit) _ (i .1) in
     rw (i .0, j .0, c .0, f .0)
 
 -- ---- an event's line
 text-by : (t : Bool) (l n : ℕ) (s : State) (e : Event) (room : List ℕ) (x : Out) (k : ℕ) → (t ≡ true → take n room ≡ itemsOf (s .control) (s .kept) e)
-    → (let o = cond t x (record { state = s; answer = Rattle.rules.specs.declared.Answer.the-variants.Refused k }) in
+    → (let o = cond t x (record { state = s; answer = Refused k }) in
     saidText (o .state .control .ring .events) l (take n room) (saidOf (o .answer))
     ≡ saidText (o .state .control .ring .events) l (itemsOf (s .control) (s .kept) e) (saidOf (o .answer)))
 unfolding saidText
@@ -113,13 +103,12 @@ module _ (R n S e : ℕ) (kept room left : List ℕ) (count : ℕ) (size : lengt
   pub listed : keptRefusal R n S e kept ≡ 0 → take count left ≡ items R n kept
   unfolding listedCount listedRoom inFront listingRefusal keptRefusal inRange
   listed z =
-      let a = refuse-none (not (inRange R n S && leb e runLimit)) 8 _ (λ q. omega arith) z in
-      let b = refuse-none (short R n kept) 10 _ (λ q. omega arith) (a .1) in
-      let c = refuse-none (not (soundImage R n e kept)) 12 0 (λ q. omega arith) (b .1) in
-      let i = and-both (inRange R n S) (leb e runLimit) (not-none _ (a .0)) in
-      let m = and-both (leb 1 R) _ (i .0) .1 in
-      let w = leb-true R 64 (and-both (leb R 64) _ m .0) in
-      let v : length room < R → ⊥ = λ q. omega arith in
+      let a = unrefused (not (inRange R n S && leb e runLimit)) 8 _ (omega arith) z in
+      let b = unrefused (short R n kept) 10 _ (omega arith) (a .1) in
+      let c = unrefused (not (soundImage R n e kept)) 12 0 (omega arith) (b .1) in
+      let i = both (inRange R n S) (leb e runLimit) (not-false _ (a .0)) in
+      let m = both (leb 1 R) _ (i .0) .1 in
+      let w = leb-true R 64 (both (leb R 64) _ m .0) in
       let r : listingRefusal R n S e kept room ≡ 0 = rw (a .0, b .0, c .0, le-ltb (length room) R (omega arith)) in
       let k : count ≡ length (items R n kept) = f ∙ rw r in
       let l : left ≡ items R n kept ++ drop (length (items R n kept)) room = g ∙ rw r in

@@ -1,5 +1,6 @@
 -- Numbers as bytes: decimal without leading zeros.
-use Prim.Native.Nat.{ℕ, zero, suc, _+_, _/_, _%_}
+use Prim.Native.Nat.{ℕ, zero, suc, _+_, _*_, _-_, _/_, _%_, _^_, _<_}
+use mathlib.Core.Path.{_≡_}
 use mathlib.Core.List.{List, [], _∷_, _++_}
 use mathlib.Core.Bool.{cond}
 use lib.Dec.{ltb}
@@ -17,3 +18,12 @@ decimal n = decimalIn 20 n
 abbrev pub spaced : List ℕ → List ℕ
 spaced [] = []
 spaced (n ∷ ns) = 32 ∷ (decimal n ++ spaced ns)
+
+-- the value of digits, after digits that made v
+abbrev pub value : ℕ → List ℕ → ℕ
+value v [] = v
+value v (d ∷ ds) = value (v * 10 + (d - 48)) ds
+
+-- decimal text has the number's value
+abbrev pub HasItsValue : Type 0
+HasItsValue = (n : ℕ) → n < 2 ^ 64 → value 0 (decimal n) ≡ n
