@@ -9,6 +9,7 @@ pub mod fates;
 pub mod images;
 pub mod machine;
 pub mod memory;
+pub mod picture;
 pub mod play;
 pub mod random;
 pub mod recovery;
