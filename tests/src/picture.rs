@@ -76,13 +76,11 @@ const HIGH: i32 = 46;
 
 /// The middle of a place's box: puts stand left, takes right, idle below.
 fn middle(place: &str) -> (i32, i32) {
-    match place.parse::<i32>() {
-        _ if place == "idle" => (480, 60 + 10 * 78 + 20),
-        Ok(_) | Err(_) => {
-            let row: i32 = place[1..].parse().expect("a place's number");
-            (if place.starts_with('P') { 250 } else { 710 }, 60 + (row - 1) * 78)
-        }
+    if place == "idle" {
+        return (480, 60 + 10 * 78 + 20);
     }
+    let row: i32 = place[1..].parse().expect("a place's number");
+    (if place.starts_with('P') { 250 } else { 710 }, 60 + (row - 1) * 78)
 }
 
 /// The way from one place to another: straight to the next below, else around a side.
