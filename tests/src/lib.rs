@@ -5,6 +5,8 @@ pub mod answer;
 pub mod check;
 pub mod client;
 pub mod coverage;
+pub mod cut_picture;
+pub mod drawing;
 pub mod fates;
 pub mod images;
 pub mod machine;

@@ -1,6 +1,6 @@
 //! docs/places.svg: the places, the answers given at each, and the ways from one to the next, read off the definitions of the step table.
 
-use std::fmt::Write;
+use crate::drawing::{Drawing, MIDDLE, MIDDLE_BOLD};
 
 /// A row of the table: its place, what it answers, and the places that it goes to.
 pub struct Row {
@@ -118,50 +118,23 @@ fn way(from: &str, to: &str) -> String {
 }
 
 pub fn svg(table: &str) -> String {
-    let mut out = String::from(
-        "<svg xmlns=\"http://www.w3.org/2000/svg\" viewBox=\"0 0 960 910\" font-family=\"sans-serif\" font-size=\"14\">\n\
-         <title>The places of a put and of a take</title>\n\
-         <defs><marker id=\"tip\" viewBox=\"0 0 10 10\" refX=\"9\" refY=\"5\" markerWidth=\"7\" markerHeight=\"7\" orient=\"auto\"><path d=\"M 0 0 L 10 5 L 0 10 z\" fill=\"#446\"/></marker></defs>\n\
-         <rect width=\"960\" height=\"910\" fill=\"#fff\"/>\n\
-         <text x=\"250\" y=\"22\" text-anchor=\"middle\">a put</text>\n\
-         <text x=\"710\" y=\"22\" text-anchor=\"middle\">a take</text>\n",
-    );
+    let mut drawing = Drawing::new("The places of a put and of a take", 960, 910);
+    drawing.text(250, 22, MIDDLE, "a put");
+    drawing.text(710, 22, MIDDLE, "a take");
     let rows = rows(table);
     for row in &rows {
         for to in &row.to {
-            writeln!(
-                out,
-                "<path d=\"{}\" fill=\"none\" stroke=\"#446\" marker-end=\"url(#tip)\"/>",
-                way(&row.place, to)
-            )
-            .expect("a string grows");
+            drawing.arrow(&way(&row.place, to));
         }
     }
     for row in &rows {
         let (x, y) = middle(&row.place);
         let fill = if row.place.starts_with('P') { "#fdf3e0" } else { "#e6f1f7" };
-        writeln!(
-            out,
-            "<rect x=\"{}\" y=\"{}\" width=\"{WIDE}\" height=\"{HIGH}\" rx=\"8\" fill=\"{fill}\" stroke=\"#446\"/>\n\
-             <text x=\"{x}\" y=\"{}\" text-anchor=\"middle\" font-weight=\"bold\">{}</text>\n\
-             <text x=\"{x}\" y=\"{}\" text-anchor=\"middle\">{}</text>",
-            x - WIDE / 2,
-            y - HIGH / 2,
-            y - 4,
-            row.place,
-            y + 14,
-            row.answers.join(", ")
-        )
-        .expect("a string grows");
+        drawing.rect([x - WIDE / 2, y - HIGH / 2, WIDE, HIGH], 8, fill);
+        drawing.text(x, y - 4, MIDDLE_BOLD, &row.place);
+        drawing.text(x, y + 14, MIDDLE, &row.answers.join(", "));
     }
     let (x, y) = middle("idle");
-    writeln!(
-        out,
-        "<rect x=\"{}\" y=\"{}\" width=\"90\" height=\"{HIGH}\" rx=\"23\" fill=\"#eee\" stroke=\"#446\"/>\n<text x=\"{x}\" y=\"{}\" text-anchor=\"middle\">idle</text>\n</svg>",
-        x - 45,
-        y - HIGH / 2,
-        y + 5
-    )
-    .expect("a string grows");
-    out
+    drawing.boxed([x - 45, y - HIGH / 2, 90, HIGH], 23, "#eee", "idle");
+    drawing.end()
 }

@@ -92,11 +92,11 @@ fn number_at(s: &[u8], at: usize) -> Number
     if 9 < d {
         return Number::Not;
     }
+    let next = digit_of(byte_at(s, at + 1));
+    if 9 < next {
+        return Number::At(d as u32, at + 1);
+    }
     if d == 0 {
-        let next = digit_of(byte_at(s, at + 1));
-        if 9 < next {
-            return Number::At(0, at + 1);
-        }
         return Number::Not;
     }
     number_from(s, d, at + 1)
@@ -228,18 +228,34 @@ fn pick(b: bool, x: Word, y: Word) -> Word
     if b { x } else { y }
 }
 
-// The word that a line begins with.
+// The word that a line begins with whose first byte is b. The seventh byte tells which word it can be.
+fn back_word(s: &[u8]) -> Word
+    requires { ⌜ getD (now s) 0 0 ≡ 98 ⌝ }
+    ensures { λ r. ⌜ r ≡ firstWord (now (s .entry)) ⌝ }
+{
+    let b = byte_at(s, 6);
+    match b {
+        101 => pick(starts(s, b"back cell"), Word::Cell, Word::Other),
+        111 => pick(starts(s, b"back copy"), Word::Copy, Word::Other),
+        97 => pick(starts(s, b"back tail"), Word::Tail, Word::Other),
+        _ => Word::Other,
+    }
+}
+
+// The word that a line begins with. The first byte tells which it can be.
 fn first_word(s: &[u8]) -> Word
     ensures { λ r. ⌜ r ≡ firstWord (now (s .entry)) ⌝ }
 {
-    let w = pick(starts(s, b"cut"), Word::Cut, Word::Other);
-    let w = pick(starts(s, b"back tail"), Word::Tail, w);
-    let w = pick(starts(s, b"back copy"), Word::Copy, w);
-    let w = pick(starts(s, b"back cell"), Word::Cell, w);
-    let w = pick(starts(s, b"go"), Word::Go, w);
-    let w = pick(starts(s, b"take"), Word::Take, w);
-    let w = pick(starts(s, b"put"), Word::Put, w);
-    pick(starts(s, b"ring"), Word::Ring, w)
+    let b = byte_at(s, 0);
+    match b {
+        103 => pick(starts(s, b"go"), Word::Go, Word::Other),
+        98 => back_word(s),
+        112 => pick(starts(s, b"put"), Word::Put, Word::Other),
+        116 => pick(starts(s, b"take"), Word::Take, Word::Other),
+        99 => pick(starts(s, b"cut"), Word::Cut, Word::Other),
+        114 => pick(starts(s, b"ring"), Word::Ring, Word::Other),
+        _ => Word::Other,
+    }
 }
 
 // How long a word is.

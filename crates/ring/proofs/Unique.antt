@@ -11,9 +11,11 @@ use Rattle.rules.specs.declared.Event.the-variants.{Put, Take, Go, Back, Cut}
 use Rattle.rules.specs.State.{State, state, Out, out}
 use Rattle.rules.specs.Refusals.{setupRefusal, keptRefusal, listingRefusal}
 use Rattle.rules.specs.Events.{event, setup}
+use Rattle.rules.specs.Block.{Upto, upto, eventCount, runBlock}
 use Rattle.rules.specs.Listing.{hostKept, listedCount, listedRoom}
 use Rattle.rules.specs.Reader.{cellPart}
 use Rattle.ring.specs.declared.Started.{Started}
+use Rattle.ring.specs.declared.Ran.{Ran}
 use Rattle.ring.specs.declared.Listed.{Listed}
 
 same-outcome : (r s : Outcome) → r .control ≡ s .control → r .answer ≡ s .answer → r ≡ s
@@ -54,6 +56,16 @@ module _ (c : Control) (running kept : List ℕ) where
     pub take-only : (i : ℕ) → out (state (r .control) running kept) (r .answer) ≡ event (state c running kept) (Take i)
         → out (state (s .control) running kept) (s .answer) ≡ event (state c running kept) (Take i) → r ≡ s
     take-only i p q = event-only r s running running kept kept (Take i) p q .0
+
+-- a block: record, count, both images and the room
+pub run-only : (s : State) (block room : List ℕ) (r t : Ran) (a b k l m n : List ℕ)
+    → (r .count ≡ eventCount block room) × (upto (state (r .control) a k) m ≡ runBlock s block room)
+    → (t .count ≡ eventCount block room) × (upto (state (t .control) b l) n ≡ runBlock s block room) → (r ≡ t) × (a ≡ b) × (k ≡ l) × (m ≡ n)
+run-only s block room r t a b k l m n p q =
+    let e = p .1 ∙ sym (q .1) in
+    let f = p .0 ∙ sym (q .0) in
+    let g = ap (λ (x : Upto). x .state .control) e in
+    (λ i. record { control = g i; count = f i }, ap (λ (x : Upto). x .state .running) e, ap (λ (x : Upto). x .state .kept) e, ap (λ (x : Upto). x .room) e)
 
 module _ (R n S : ℕ) where
   pub setup-only : (running kept : List ℕ) (r s : Started) (a b k l : List ℕ)

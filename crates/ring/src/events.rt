@@ -1,10 +1,9 @@
 // The events of a sound state: begin, step, write back, cut.
 use crate::memory;
-use crate::puts;
+use crate::one;
 use crate::recovery;
 use crate::refusals;
 use crate::rows;
-use crate::takes;
 use rules::Answer;
 use rules::Control;
 use rules::Event;
@@ -19,14 +18,14 @@ ghost use mathlib.Core.Bool.{true};
 ghost use Prim.Native.Nat.{_<_, _≤_};
 ghost use lib.ListN.{length};
 ghost use Rattle.rules.specs.Numbers.{maxCells, maxThreads, runLimit};
-ghost use Rattle.rules.specs.Record.{threadAt, withThread, controlOf, headed};
+ghost use Rattle.rules.specs.Record.{controlOf, headed};
 ghost use Rattle.rules.specs.Memory.{size};
 ghost use Rattle.rules.specs.Line.{carriesCell, carriesCopy, carriesTail, carried, ends, released, lineExists};
-ghost use Rattle.rules.specs.Table.{leaves, row};
 ghost use Rattle.rules.specs.State.{state, out, outcome};
-ghost use Rattle.rules.specs.Facts.{Ready, Sound};
+ghost use Rattle.rules.specs.Facts.{Sound};
 ghost use Rattle.rules.specs.declared.Event.the-variants.{Put, Take, Go, Back, Cut};
-ghost use Rattle.rules.specs.Events.{counts, begins, inner};
+ghost use Rattle.rules.specs.Events.{counts, inner};
+ghost use Rattle.ring.specs.OneThread.{placed};
 
 // The record with one event more.
 fn count(c: Control) -> Control
@@ -40,15 +39,16 @@ fn count(c: Control) -> Control
     n
 }
 
-// Thread i begins at a place, with an item.
-fn begin(c: Control, i: u32, place: u32, item: u32) -> Control
-    requires { ⌜ c .ring .events < runLimit ⌝ }
-    ensures { λ r. ⌜ r ≡ counts (withThread c i (begins (threadAt c i) place item)) ⌝ }
+// The record with what an event left of its thread i.
+fn placed(c: Control, i: u32, m: Moved) -> Outcome
+    ensures { λ r. ⌜ r ≡ record { control = placed c i m; answer = m .answer } ⌝ }
 {
-    let mut t = c.thread_at(i);
-    t.place = place;
-    t.item = item;
-    count(c.with_thread(i, t))
+    let g = m.ring;
+    let t = m.thread;
+    let answer = m.answer;
+    let mut control = c.with_thread(i, t);
+    control.ring = g;
+    Outcome { control, answer }
 }
 
 // Begins a put.
@@ -56,18 +56,9 @@ pub fn put(c: Control, running: &[u32], kept: &[u32], i: u32, x: u32) -> Outcome
     requires { ⌜ Sound (state c (now running) (now kept)) ⌝ }
     ensures { λ r. ⌜ out (state (r .control) (now (running .entry)) (now (kept .entry))) (r .answer) ≡ inner (state c (now (running .entry)) (now (kept .entry))) (Put i x) ⌝ }
 {
-    let k = refusals::of_put(c, i, x);
-    if k != 0 {
-        return Outcome {
-            control: c,
-            answer: Answer::Refused(k),
-        };
-    }
-    let control = begin(c, i, 1, x);
-    Outcome {
-        control,
-        answer: Answer::Begun(i),
-    }
+    let g = c.ring;
+    let t = c.thread_at(i);
+    placed(c, i, one::put(g, i, t, x))
 }
 
 // Begins a take.
@@ -75,36 +66,9 @@ pub fn take(c: Control, running: &[u32], kept: &[u32], i: u32) -> Outcome
     requires { ⌜ Sound (state c (now running) (now kept)) ⌝ }
     ensures { λ r. ⌜ out (state (r .control) (now (running .entry)) (now (kept .entry))) (r .answer) ≡ inner (state c (now (running .entry)) (now (kept .entry))) (Take i) ⌝ }
 {
-    let k = refusals::of_take(c, i);
-    if k != 0 {
-        return Outcome {
-            control: c,
-            answer: Answer::Refused(k),
-        };
-    }
+    let g = c.ring;
     let t = c.thread_at(i);
-    let control = begin(c, i, 11, t.item);
-    Outcome {
-        control,
-        answer: Answer::Begun(i),
-    }
-}
-
-// One row of the step table. A busy thread of a sound record has one of the twenty places, so the last arm is never taken.
-fn row(g: Ring, who: u32, t: Thread, m: &mut [u32]) -> Moved
-    requires { ⌜ Ready g who t (now m) × (g .events < runLimit) ⌝ }
-    ensures { λ r. ⌜ leaves r (now (m .exit)) ≡ row g who t (now (m .entry)) ⌝ }
-{
-    let place = t.place;
-    match place {
-        1..=10 => puts::put_row(g, who, t, m),
-        11..=20 => takes::take_row(g, who, t, m),
-        _ => Moved {
-            ring: g,
-            thread: t,
-            answer: Answer::Refused(8),
-        },
-    }
+    placed(c, i, one::take(g, i, t))
 }
 
 // Steps a thread.
@@ -112,22 +76,9 @@ pub fn go(c: Control, running: &mut [u32], kept: &[u32], i: u32) -> Outcome
     requires { ⌜ Sound (state c (now running) (now kept)) ⌝ }
     ensures { λ r. ⌜ out (state (r .control) (now (running .exit)) (now (kept .entry))) (r .answer) ≡ inner (state c (now (running .entry)) (now (kept .entry))) (Go i) ⌝ }
 {
-    let k = refusals::of_go(c, i);
-    if k != 0 {
-        return Outcome {
-            control: c,
-            answer: Answer::Refused(k),
-        };
-    }
-    let t = c.thread_at(i);
     let g = c.ring;
-    let moved = row(g, i, t, running);
-    let n = moved.thread;
-    let h = moved.ring;
-    let answer = moved.answer;
-    let mut d = c.with_thread(i, n);
-    d.ring = h.count();
-    Outcome { control: d, answer }
+    let t = c.thread_at(i);
+    placed(c, i, one::go(g, i, t, running))
 }
 
 // The line carries cell i.
@@ -190,16 +141,15 @@ fn release(line: Line, t: Thread) -> Thread
 }
 
 // All threads once the line is written.
-fn release_all(c: Control, line: Line) -> Control
-    ensures { λ r. ⌜ r ≡ record { ring = c .ring; thread = map (released line) (c .thread) } ⌝ }
+fn release_all(line: Line, threads: [Thread; 8]) -> [Thread; 8]
+    ensures { λ r. ⌜ r ≡ map (released line) threads ⌝ }
 {
-    let mut d = c;
-    for i in 0..Control::MAX_THREADS {
-        let t = c.thread_at(i);
-        let n = release(line, t);
-        d = d.with_thread(i, n);
+    let mut after = threads;
+    for i in 0..8usize {
+        let t = threads[i];
+        after[i] = release(line, t);
     }
-    d
+    after
 }
 
 // The line goes from running to kept.
@@ -226,23 +176,42 @@ fn carry(cells: u32, threads: u32, line: Line, running: &[u32], kept: &mut [u32]
     }
 }
 
+// Writes a line back that exists: what that leaves of the threads.
+pub fn written(
+    g: Ring,
+    threads: [Thread; 8],
+    line: Line,
+    running: &[u32],
+    kept: &mut [u32],
+) -> [Thread; 8]
+    requires { ⌜ (g .cells ≤ maxCells) × (g .threads ≤ maxThreads) × (size (g .cells) (g .threads) ≤ length (now running)) × (size (g .cells) (g .threads) ≤ length (now kept)) × (lineExists (g .cells) (g .threads) line ≡ true) ⌝ }
+    ensures { λ r. ⌜ r ≡ map (released line) threads ⌝ }
+    ensures { λ _. ⌜ now (kept .exit) ≡ carried (g .cells) (g .threads) line (now (running .entry)) (now (kept .entry)) ⌝ }
+{
+    carry(g.cells, g.threads, line, running, kept);
+    release_all(line, threads)
+}
+
 // Writes a line back.
 pub fn back(c: Control, running: &[u32], kept: &mut [u32], line: Line) -> Outcome
     requires { ⌜ Sound (state c (now running) (now kept)) ⌝ }
     ensures { λ r. ⌜ out (state (r .control) (now (running .entry)) (now (kept .exit))) (r .answer) ≡ inner (state c (now (running .entry)) (now (kept .entry))) (Back line) ⌝ }
 {
-    let k = refusals::of_back(c, line);
+    let g = c.ring;
+    let k = refusals::of_back(g, line);
     if k != 0 {
         return Outcome {
             control: c,
             answer: Answer::Refused(k),
         };
     }
-    let g = c.ring;
-    carry(g.cells, g.threads, line, running, kept);
-    let control = count(release_all(c, line));
+    let threads = c.thread;
+    let thread = written(g, threads, line, running, kept);
     Outcome {
-        control,
+        control: Control {
+            ring: g.count(),
+            thread,
+        },
         answer: Answer::Written(line),
     }
 }
@@ -263,14 +232,14 @@ pub fn cut(c: Control, running: &mut [u32], kept: &mut [u32]) -> Outcome
     requires { ⌜ Sound (state c (now running) (now kept)) ⌝ }
     ensures { λ r. ⌜ out (state (r .control) (now (running .exit)) (now (kept .exit))) (r .answer) ≡ inner (state c (now (running .entry)) (now (kept .entry))) Cut ⌝ }
 {
-    let k = refusals::of_cut(c);
+    let g = c.ring;
+    let k = refusals::of_cut(g);
     if k != 0 {
         return Outcome {
             control: c,
             answer: Answer::Refused(k),
         };
     }
-    let g = c.ring;
     let found = recovery::recover(g.cells, g.threads, kept);
     memory::over(kept, running, memory::size_of(g.cells, g.threads));
     let control = count(after_cut(g, found.head));

@@ -1,9 +1,11 @@
 // The machine: public entries, which take anything.
+mod block;
 mod choose;
 mod events;
 mod fresh;
 mod listing;
 mod memory;
+mod one;
 mod puts;
 mod reader;
 mod recovery;
@@ -24,6 +26,7 @@ ghost use Rattle.rules.specs.Refusals.{setupRefusal, keptRefusal, listingRefusa
 ghost use Rattle.rules.specs.Events.{event, setup};
 ghost use Rattle.rules.specs.Listing.{hostKept, listedCount, listedRoom};
 ghost use Rattle.rules.specs.Reader.{cellPart};
+ghost use Rattle.rules.specs.Block.{eventCount, upto, runBlock};
 
 // What setup hands back: the record, and 0 or the refusal.
 pub struct Started {
@@ -135,6 +138,33 @@ pub fn cut(control: Control, running: &mut [u32], kept: &mut [u32]) -> Outcome
         };
     }
     events::cut(control, running, kept)
+}
+
+// What a block hands back: the record, and how many events were run.
+pub struct Ran {
+    pub control: Control,
+    pub count: usize,
+}
+
+// A block of events, three numbers each, run one after the other; six numbers of each answer go to the room.
+pub fn run(
+    control: Control,
+    running: &mut [u32],
+    kept: &mut [u32],
+    block: &[u32],
+    room: &mut [u32],
+) -> Ran
+    ensures { λ r. ⌜ r .count ≡ eventCount (now (block .entry)) (now (room .entry)) ⌝ }
+    ensures { λ r. ⌜ upto (state (r .control) (now (running .exit)) (now (kept .exit))) (now (room .exit)) ≡ runBlock (state control (now (running .entry)) (now (kept .entry))) (now (block .entry)) (now (room .entry)) ⌝ }
+{
+    let count = block::event_count(block, room);
+    let k = refusals::unsound(control, running, kept);
+    if k != 0 {
+        block::refuse_to(k, block, room, count);
+        return Ran { control, count };
+    }
+    let control = block::run_to(control, running, kept, block, room, count);
+    Ran { control, count }
 }
 
 // Recovery of a kept image alone: 0, and the image as a cut would leave it, or the refusal.

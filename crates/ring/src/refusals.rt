@@ -4,13 +4,14 @@ use crate::memory;
 use crate::sound;
 use rules::Control;
 use rules::Line;
+use rules::Ring;
+use rules::Thread;
 ghost use mathlib.Core.Path.{_≡_};
 ghost use mathlib.Core.List.{List};
 ghost use Prim.Native.Nat.{ℕ};
 ghost use lib.ListN.{length};
-ghost use Rattle.rules.specs.declared.Event.the-variants.{Put, Take, Go, Back, Cut};
 ghost use Rattle.rules.specs.State.{state};
-ghost use Rattle.rules.specs.Refusals.{setupRefusal, unsound, ownRefusal, keptRefusal, listingRefusal};
+ghost use Rattle.rules.specs.Refusals.{setupRefusal, unsound, putRefusal, takeRefusal, goRefusal, backRefusal, cutRefusal, keptRefusal, listingRefusal};
 
 // Setup.
 pub fn of_setup(cells: u32, threads: u32, tries: u32, running: &[u32], kept: &[u32]) -> u32
@@ -53,17 +54,16 @@ pub fn unsound(c: Control, running: &[u32], kept: &[u32]) -> u32
     0
 }
 
-// What each event tests then.
-pub fn of_put(c: Control, i: u32, x: u32) -> u32
-    ensures { λ r. ⌜ r ≡ ownRefusal c (Put i x) ⌝ }
+// What each event tests then; thread i is t.
+pub fn of_put(g: Ring, i: u32, t: Thread, x: u32) -> u32
+    ensures { λ r. ⌜ r ≡ putRefusal g i t x ⌝ }
 {
-    if c.ring.events == Control::RUN_LIMIT {
+    if g.events == Control::RUN_LIMIT {
         return 7;
     }
-    if c.ring.threads <= i {
+    if g.threads <= i {
         return 2;
     }
-    let t = c.thread_at(i);
     if t.place != 0 {
         return 4;
     }
@@ -73,54 +73,52 @@ pub fn of_put(c: Control, i: u32, x: u32) -> u32
     0
 }
 
-pub fn of_take(c: Control, i: u32) -> u32
-    ensures { λ r. ⌜ r ≡ ownRefusal c (Take i) ⌝ }
+pub fn of_take(g: Ring, i: u32, t: Thread) -> u32
+    ensures { λ r. ⌜ r ≡ takeRefusal g i t ⌝ }
 {
-    if c.ring.events == Control::RUN_LIMIT {
+    if g.events == Control::RUN_LIMIT {
         return 7;
     }
-    if c.ring.threads <= i {
+    if g.threads <= i {
         return 2;
     }
-    let t = c.thread_at(i);
     if t.place != 0 {
         return 4;
     }
     0
 }
 
-pub fn of_go(c: Control, i: u32) -> u32
-    ensures { λ r. ⌜ r ≡ ownRefusal c (Go i) ⌝ }
+pub fn of_go(g: Ring, i: u32, t: Thread) -> u32
+    ensures { λ r. ⌜ r ≡ goRefusal g i t ⌝ }
 {
-    if c.ring.events == Control::RUN_LIMIT {
+    if g.events == Control::RUN_LIMIT {
         return 7;
     }
-    if c.ring.threads <= i {
+    if g.threads <= i {
         return 2;
     }
-    let t = c.thread_at(i);
     if t.place == 0 {
         return 5;
     }
     0
 }
 
-pub fn of_back(c: Control, line: Line) -> u32
-    ensures { λ r. ⌜ r ≡ ownRefusal c (Back line) ⌝ }
+pub fn of_back(g: Ring, line: Line) -> u32
+    ensures { λ r. ⌜ r ≡ backRefusal g line ⌝ }
 {
-    if c.ring.events == Control::RUN_LIMIT {
+    if g.events == Control::RUN_LIMIT {
         return 7;
     }
-    if !sound::line_exists(c.ring.cells, c.ring.threads, line) {
+    if !sound::line_exists(g.cells, g.threads, line) {
         return 3;
     }
     0
 }
 
-pub fn of_cut(c: Control) -> u32
-    ensures { λ r. ⌜ r ≡ ownRefusal c Cut ⌝ }
+pub fn of_cut(g: Ring) -> u32
+    ensures { λ r. ⌜ r ≡ cutRefusal g ⌝ }
 {
-    if c.ring.events == Control::RUN_LIMIT {
+    if g.events == Control::RUN_LIMIT {
         return 7;
     }
     0

@@ -111,7 +111,8 @@ pub fn sound_record(c: Control) -> bool
     let g = c.ring;
     let mut ok = true;
     for i in 0..Control::MAX_THREADS {
-        let t = c.thread_at(i);
+        let k = i as usize;
+        let t = c.thread[k];
         ok = choose::both(ok, sound_thread(g, i, t));
     }
     choose::both(sound_ring(g), ok)

@@ -135,8 +135,8 @@ module _ (s : State) (a : Account) (v : Inv s a) (τ : Tale) (w : Told s a τ) w
     },
   )
 
-  conf : (x : ℕ) → ConfsAt n (a .head) (tailAt R n (s .running)) (threadAt (s .control)) (a .durable) (τ .handed) (τ .cuts) (τ .confirmed) x
-      → ConfsAt n hd tl (threadAt (cut s .state .control)) (rest s a v) (τ .handed) (now ∷ τ .cuts) (τ .confirmed) x
+  conf : (x : ℕ) → ConfsAt n (a .head) (tailAt R n (s .running)) (threadAt (s .control)) (a .durable) (τ .landings) (τ .handed) (τ .cuts) (τ .confirmed) x
+      → ConfsAt n hd tl (threadAt (cut s .state .control)) (rest s a v) (τ .landings) (τ .handed) (now ∷ τ .cuts) (τ .confirmed) x
   unfolding mark
   conf x (inl q) = inl q
   conf x (inr (i, q, f)) = inr (
@@ -145,8 +145,8 @@ module _ (s : State) (a : Account) (v : Inv s a) (τ : Tale) (w : Told s a τ) w
     elim (decLe pm x) [
       | yes l ↦ (let d : a .durable x ≡ i = f .kept (omega (arith, base-mark s a v, mark-is s a v)) in
           let o : a .durable x ≢ 0 = λ e. f .item (sym d ∙ e) in
-          record { item = f .item; under = below-tail s a v x l o; free = λ t k. rest-within 2 10 t x (omega arith) k; kept = λ b. rest-of s a v x l ∙ d; past = λ b. absurd (omega (arith, above-head s a v x l o)) })
-      | no l ↦ record { item = f .item; under = omega (arith, pm-hd, hd-tl); free = λ t k. rest-within 2 10 t x (omega arith) k; kept = λ b. absurd (omega (arith, pm-hd)); past = λ b. fell (decLe (a .head) x) (omega arith) }
+          record { item = f .item; under = below-tail s a v x l o; free = λ t k. rest-within 2 10 t x (omega arith) k; from = f .from; kept = λ b. rest-of s a v x l ∙ d; past = λ b. absurd (omega (arith, above-head s a v x l o)) })
+      | no l ↦ record { item = f .item; under = omega (arith, pm-hd, hd-tl); free = λ t k. rest-within 2 10 t x (omega arith) k; from = f .from; kept = λ b. absurd (omega (arith, pm-hd)); past = λ b. fell (decLe (a .head) x) (omega arith) }
     ],
   )
     where

@@ -96,14 +96,14 @@ pub record Doing (P : Event → Out → Type 0) (s : State) : Type 0 where
 
 module _ (P : Event → Out → Type 0) (s : State) (d : Doing P s) where
   -- past 7, and past 7 and 2
-  room : (k : ℕ) → refuse (full (s .control)) 7 k ≡ 0 → k ≡ 0
-  room k h = unrefused (full (s .control)) 7 k (lit< tt) h .1
+  room : (k : ℕ) → refuse (full (s .control .ring)) 7 k ≡ 0 → k ≡ 0
+  room k h = unrefused (full (s .control .ring)) 7 k (lit< tt) h .1
 
-  known : (i k : ℕ) → refuse (full (s .control)) 7 (refuse (noThread (s .control) i) 2 k) ≡ 0 → (i < s .control .ring .threads) × (k ≡ 0)
-  known i k h = let q = unrefused (noThread (s .control) i) 2 k (lit< tt) (room _ h) in (leb-false (s .control .ring .threads) i (q .0), q .1)
+  known : (i k : ℕ) → refuse (full (s .control .ring)) 7 (refuse (noThread (s .control .ring) i) 2 k) ≡ 0 → (i < s .control .ring .threads) × (k ≡ 0)
+  known i k h = let q = unrefused (noThread (s .control .ring) i) 2 k (lit< tt) (room _ h) in (leb-false (s .control .ring .threads) i (q .0), q .1)
 
-  at-rest : (i k : ℕ) → refuse (not (isIdle (s .control) i)) 4 k ≡ 0 → (threadAt (s .control) i .place ≡ 0) × (k ≡ 0)
-  at-rest i k h = let q = unrefused (not (isIdle (s .control) i)) 4 k (lit< tt) h in (eqb-true _ 0 (not-false _ (q .0)), q .1)
+  at-rest : (i k : ℕ) → refuse (not (isIdle (threadAt (s .control) i))) 4 k ≡ 0 → (threadAt (s .control) i .place ≡ 0) × (k ≡ 0)
+  at-rest i k h = let q = unrefused (not (isIdle (threadAt (s .control) i))) 4 k (lit< tt) h in (eqb-true _ 0 (not-false _ (q .0)), q .1)
 
   busy : (p : ℕ) → (p ≡ 0 → ⊥) → 1 ≤ p
   busy p h = omega arith
@@ -112,7 +112,7 @@ module _ (P : Event → Out → Type 0) (s : State) (d : Doing P s) where
   unfolding ownRefusal does
   done (Put i x) h = let q = known i _ h in let r = at-rest i _ (q .1) in d .put i x (q .0) (r .0) (eqb-false x 0 (unrefused (eqb x 0) 6 0 (lit< tt) (r .1) .0))
   done (Take i) h = let q = known i _ h in d .take i (q .0) (at-rest i _ (q .1) .0)
-  done (Go i) h = let q = known i _ h in d .go i (q .0) (busy _ (eqb-false _ 0 (unrefused (isIdle (s .control) i) 5 0 (lit< tt) (q .1) .0)))
+  done (Go i) h = let q = known i _ h in d .go i (q .0) (busy _ (eqb-false _ 0 (unrefused (isIdle (threadAt (s .control) i)) 5 0 (lit< tt) (q .1) .0)))
   done (Back l) h = d .back l (not-false _ (unrefused (not (lineExists (s .control .ring .cells) (s .control .ring .threads) l)) 3 0 (lit< tt) (room _ h) .0))
   done CutEvent h = d .cuts
 

@@ -143,12 +143,16 @@ module _ (s : State) (a : Account) (v : Inv s a) (τ : Tale) (w : Told s a τ) (
       new : ℕ → Thread
       new = threadAt (next s g m t idle .control)
 
-      facts : isNone (h .awaited) ≡ true → ConfFacts (threadsOf s) (a .head) tl new (a .durable) (τ .handed) (τ .cuts) x (h .item)
-      facts p = let b = mine .put (omega arith) (omega arith) in
+      facts : isNone (h .awaited) ≡ true → ConfFacts (threadsOf s) (a .head) tl new (a .durable) (τ .landings) (τ .handed) (τ .cuts) x (h .item)
+      facts p =
+          let b = mine .put (omega arith) (omega arith) in
+          let z = mine .item (omega arith) (omega arith) in
+          let l = mine .p5 (omega arith) (omega arith) in
           record {
-            item = mine .item (omega arith) (omega arith);
+            item = z;
             under = b .1;
             free = thr-cases (λ i y. Within 2 10 y x → ⊥) (upd s a v τ w t tn g m idle) (λ k. omega arith) (λ i d k. d (w .puts i t x k mem));
+            from = rw l at (w .lands x (λ q. z (sym l ∙ q)));
             kept = λ _. no-longer (h .awaited) (CellLine (h .number % cellsOf s)) p refl (v .thrs t .waits .p6 e);
             past = λ q. absurd (omega arith);
           }

@@ -68,15 +68,16 @@ abbrev pub HandsAt : ℕ → ℕ → (ℕ → Thread) → (ℕ → ℕ) → (ℕ
 HandsAt mark base th landed landings handed x = (handed x ≡ []) ⊎ ((i : ℕ) × (handed x ≡ i ∷ []) × HandFacts mark base th landed landings x i)
 
 -- x was confirmed as i
-pub record ConfFacts (n base tail : ℕ) (th : ℕ → Thread) (durable : ℕ → ℕ) (handed : ℕ → List ℕ) (cuts : List CutOff) (x i : ℕ) : Type 0 where
+pub record ConfFacts (n base tail : ℕ) (th : ℕ → Thread) (durable : ℕ → ℕ) (landings handed : ℕ → List ℕ) (cuts : List CutOff) (x i : ℕ) : Type 0 where
   pub item : i ≢ 0
   pub under : x < tail
   pub free : (t : ℕ) → Within 2 10 (th t) x → ⊥
+  pub from : In i (landings x)
   pub kept : base ≤ x → durable x ≡ i
   pub past : x < base → (handed x ≡ i ∷ []) ⊎ Gone n cuts x
 
-abbrev pub ConfsAt : ℕ → ℕ → ℕ → (ℕ → Thread) → (ℕ → ℕ) → (ℕ → List ℕ) → List CutOff → (ℕ → List ℕ) → ℕ → Type 0
-ConfsAt n base tail th durable handed cuts confirmed x = (confirmed x ≡ []) ⊎ ((i : ℕ) × (confirmed x ≡ i ∷ []) × ConfFacts n base tail th durable handed cuts x i)
+abbrev pub ConfsAt : ℕ → ℕ → ℕ → (ℕ → Thread) → (ℕ → ℕ) → (ℕ → List ℕ) → (ℕ → List ℕ) → List CutOff → (ℕ → List ℕ) → ℕ → Type 0
+ConfsAt n base tail th durable landings handed cuts confirmed x = (confirmed x ≡ []) ⊎ ((i : ℕ) × (confirmed x ≡ i ∷ []) × ConfFacts n base tail th durable landings handed cuts x i)
 
 pub record Told (s : State) (a : Account) (τ : Tale) : Type 0 where
   pub drawn : Drawn (cellsOf s) (a .head) (topOf s) (runCell s) (threadAt (s .control)) (a .landed) (τ .handed)
@@ -84,7 +85,7 @@ pub record Told (s : State) (a : Account) (τ : Tale) : Type 0 where
   pub takes : Distinct 12 20 (threadAt (s .control))
   pub puts : Distinct 2 10 (threadAt (s .control))
   pub hands : (x : ℕ) → HandsAt (markOf (cellsOf s) (threadsOf s) a) (a .head) (threadAt (s .control)) (a .landed) (τ .landings) (τ .handed) x
-  pub confs : (x : ℕ) → ConfsAt (threadsOf s) (a .head) (tailAt (cellsOf s) (threadsOf s) (s .running)) (threadAt (s .control)) (a .durable) (τ .handed) (τ .cuts) (τ .confirmed) x
+  pub confs : (x : ℕ) → ConfsAt (threadsOf s) (a .head) (tailAt (cellsOf s) (threadsOf s) (s .running)) (threadAt (s .control)) (a .durable) (τ .landings) (τ .handed) (τ .cuts) (τ .confirmed) x
   pub gones : (x : ℕ) → Gone (threadsOf s) (τ .cuts) x → (x < a .head) × (τ .handed x ≡ [])
   pub lands : (x : ℕ) → a .landed x ≢ 0 → In (a .landed x) (τ .landings x)
   pub closed : τ .closed ≡ true → closedAt (cellsOf s) (threadsOf s) (s .kept) ≡ 1
@@ -111,7 +112,7 @@ module _ (s : State) (a : Account) (v : Inv s a) (τ : Tale) (w : Told s a τ) (
       → ((x : ℕ) → (τ′ .handed x ≡ τ .handed x) ⊎ ((a .head ≤ x) × (τ .handed x ≡ []) × ((i : ℕ) × (τ′ .handed x ≡ i ∷ [])
       × HandFacts (markOf (cellsOf s) (threadsOf s) a) (a .head) (threadAt (next s (headed (s .control .ring) top) m t y .control)) (a′ .landed) (τ′ .landings) x i)))
       → ((x : ℕ) → (τ′ .confirmed x ≡ τ .confirmed x) ⊎ ((i : ℕ) × (τ′ .confirmed x ≡ i ∷ [])
-      × ConfFacts (threadsOf s) (a .head) (tailAt (cellsOf s) (threadsOf s) m) (threadAt (next s (headed (s .control .ring) top) m t y .control)) (a′ .durable) (τ′ .handed) (τ′ .cuts) x i))
+      × ConfFacts (threadsOf s) (a .head) (tailAt (cellsOf s) (threadsOf s) m) (threadAt (next s (headed (s .control .ring) top) m t y .control)) (a′ .durable) (τ′ .landings) (τ′ .handed) (τ′ .cuts) x i))
       → τ′ .cuts ≡ τ .cuts → (τ′ .closed ≡ true → closedAt (cellsOf s) (threadsOf s) (s .kept) ≡ 1)
       → Told (next s (headed (s .control .ring) top) m t y) a′ τ′
   unfolding withThread
@@ -154,9 +155,9 @@ module _ (s : State) (a : Account) (v : Inv s a) (τ : Tale) (w : Told s a τ) (
       )
 
       conf : (x : ℕ) → (τ′ .confirmed x ≡ τ .confirmed x) ⊎ ((i : ℕ) × (τ′ .confirmed x ≡ i ∷ [])
-          × ConfFacts (threadsOf s) (a .head) (tailAt (cellsOf s) (threadsOf s) m) new (a′ .durable) (τ′ .handed) (τ′ .cuts) x i)
-          → ConfsAt (threadsOf s) (a .head) (tailAt (cellsOf s) (threadsOf s) (s .running)) (threadAt (s .control)) (a .durable) (τ .handed) (τ .cuts) (τ .confirmed) x
-          → ConfsAt (threadsOf s) (a .head) (tailAt (cellsOf s) (threadsOf s) m) new (a′ .durable) (τ′ .handed) (τ′ .cuts) (τ′ .confirmed) x
+          × ConfFacts (threadsOf s) (a .head) (tailAt (cellsOf s) (threadsOf s) m) new (a′ .durable) (τ′ .landings) (τ′ .handed) (τ′ .cuts) x i)
+          → ConfsAt (threadsOf s) (a .head) (tailAt (cellsOf s) (threadsOf s) (s .running)) (threadAt (s .control)) (a .durable) (τ .landings) (τ .handed) (τ .cuts) (τ .confirmed) x
+          → ConfsAt (threadsOf s) (a .head) (tailAt (cellsOf s) (threadsOf s) m) new (a′ .durable) (τ′ .landings) (τ′ .handed) (τ′ .cuts) (τ′ .confirmed) x
       conf x (inr z) k = inr z
       conf x (inl e) (inl k) = inl (e ∙ k)
       conf x (inl e) (inr (i, q, f)) = inr (
@@ -166,6 +167,7 @@ module _ (s : State) (a : Account) (v : Inv s a) (τ : Tale) (w : Told s a τ) (
           item = f .item;
           under = omega (arith, f .under);
           free = free-on 2 10 (tailAt (cellsOf s) (threadsOf s) (s .running)) _ _ t y u sp x (f .under) (f .free);
+          from = ng x i (f .from);
           kept = λ b. let g = f .kept b in dg x (λ z. f .item (sym g ∙ z)) ∙ g;
           past = λ b. was (f .past b) (hn x);
         },

@@ -121,8 +121,8 @@ tell-back s a v τ w l x =
     hand y (inl q) = inl q
     hand y (inr (i, q, f)) = inr (i, q, record { item = f .item; under = omega (arith, f .under, mark-rises s a v l); free = λ t k. f .free t (within-free l (rw (same t) at k)); from = f .from; is = f .is })
 
-    conf : (y : ℕ) → ConfsAt (threadsOf s) (a .head) (tailAt (cellsOf s) (threadsOf s) (s .running)) (threadAt (s .control)) (a .durable) (τ .handed) (τ .cuts) (τ .confirmed) y
-        → ConfsAt (threadsOf s) (a .head) (tailAt (cellsOf s) (threadsOf s) (s .running)) th′ (writes a l .durable) (τ .handed) (τ .cuts) (τ .confirmed) y
+    conf : (y : ℕ) → ConfsAt (threadsOf s) (a .head) (tailAt (cellsOf s) (threadsOf s) (s .running)) (threadAt (s .control)) (a .durable) (τ .landings) (τ .handed) (τ .cuts) (τ .confirmed) y
+        → ConfsAt (threadsOf s) (a .head) (tailAt (cellsOf s) (threadsOf s) (s .running)) th′ (writes a l .durable) (τ .landings) (τ .handed) (τ .cuts) (τ .confirmed) y
     conf y (inl q) = inl q
     conf y (inr (i, q, f)) = inr (
       i,
@@ -131,6 +131,7 @@ tell-back s a v τ w l x =
         item = f .item;
         under = f .under;
         free = λ t k. f .free t (within-free l (rw (same t) at k));
+        from = f .from;
         kept = λ b. let g = f .kept b in grows y (λ z. f .item (sym g ∙ z)) ∙ g;
         past = f .past;
       },

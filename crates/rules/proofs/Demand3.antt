@@ -1,6 +1,6 @@
 -- Demand 3 holds of every run from a fresh ring.
 use Prim.Native.Nat.{ℕ, _+_, _-_, _<_, _≤_}
-use mathlib.Core.Path.{_≡_, refl, sym, _∙_}
+use mathlib.Core.Path.{_≡_, refl, sym, _∙_, subst}
 use mathlib.Core.Logic.{_≢_, _⊎_, inl, inr}
 use mathlib.Core.Option.{Option, some}
 use mathlib.Core.List.{List, [], _∷_, List·Memᴰ·head, List·Memᴰ·not-nil, List·Memᴰ·eq-of-singleton, Memᴰ·cast}
@@ -15,11 +15,10 @@ use Rattle.rules.specs.Record.{idle, threadAt}
 use Rattle.rules.specs.Upto.{joinFrom}
 use Rattle.rules.specs.Cut.{passMark, finds, Entry, entry, queueOf}
 use Rattle.rules.specs.State.{State, Out}
-use Rattle.rules.specs.Refusals.{setupRefusal}
 use Rattle.rules.specs.Events.{stepThread, cut, event, freshState, after, answers}
-use Rattle.rules.specs.Account.{Account, opened, markOf, listed, enters, account}
+use Rattle.rules.specs.Account.{Account, opened, listed, enters, account}
 use Rattle.rules.specs.Tale.{In, Tale, untold, tells, tale, Gone}
-use Rattle.rules.specs.Demand3.{ExactlyOne, first, second, third, AtCut, Demand3}
+use Rattle.rules.specs.Demand3.{Unqueued, ExactlyOne, first, second, third, AtCut, Demand3Holds}
 use Rattle.rules.proofs.Tests.{getD-all}
 use Rattle.rules.proofs.Joined.{join-from, in-join}
 use Rattle.rules.proofs.D3Dispatch.{event-cases}
@@ -27,10 +26,10 @@ use Rattle.rules.proofs.D3Inv.{Inv, cellsOf, threadsOf}
 use Rattle.rules.proofs.D3Cut.{mark-is, rest-is, rest}
 use Rattle.rules.proofs.D3Queue.{listed-none, listed-one, queues-agree, unwalked, in-walk, above-head}
 use Rattle.rules.proofs.D3Agree.{Reached, reach, cut-finds, cut-agrees, fresh-reached}
-use Rattle.rules.proofs.D3Told.{Within, HandsAt, Told}
+use Rattle.rules.proofs.D3Told.{Within, Told}
 use Rattle.rules.proofs.D3Moves.{tell-row}
 use Rattle.rules.proofs.D3Written.{tell-put, tell-take, tell-back}
-use Rattle.rules.proofs.D3Heard.{heard}
+use Rattle.rules.proofs.D3Heard.{heard, Fits, fits}
 use Rattle.rules.proofs.D3Within.{within}
 use Rattle.rules.proofs.D3CutOff.{pm-hd, tell-cut}
 
@@ -93,6 +92,11 @@ one-or-none : {A : ℕ → Type 0} (l : List ℕ) → (l ≡ []) ⊎ ((i : ℕ) 
 one-or-none l (inl e) = rw e (omega arith)
 one-or-none l (inr (i, e, f)) = rw e (omega arith)
 
+-- what is told of the one, of all in the list
+all-from : {A : ℕ → Type 0} {l m : List ℕ} → (l ≡ []) ⊎ ((i : ℕ) × (l ≡ i ∷ []) × A i) → ((i : ℕ) → A i → In i m) → (i : ℕ) → In i l → In i m
+all-from (inl q) f i k = absurd (List·Memᴰ·not-nil (rw q at k))
+all-from (inr (j, q, y)) f i k = Memᴰ·cast (List·Memᴰ·eq-of-singleton (rw q at k)) (f j y)
+
 none-is-not : {l : List ℕ} {i : ℕ} → l ≡ [] → l ≡ i ∷ [] → ⊥
 none-is-not p q = let z : _≡_ {A = ℕ} 0 1 = cc in omega arith
 
@@ -123,12 +127,10 @@ module _ (s : State) (a : Account) (v : Inv s a) (τ : Tale) (w : Told s a τ) w
   unfolding tells enters cut
   gone-is x g = after-cut .gones x g
 
-  handed-low : (x i : ℕ) → τ .handed x ≡ i ∷ [] → x < f .head
+  -- what was handed out lies below Head
+  unhanded : (x : ℕ) → f .head ≤ x → τ .handed x ≡ []
   unfolding finds
-  handed-low x i e = elim (w .hands x) [
-    | inl q ↦ absurd (none-is-not q e)
-    | inr q ↦ omega (arith, q .2 .under, mark-is s a v, pm-hd s a v τ w)
-  ]
+  unhanded x l = elim (w .hands x) [ inl q ↦ q | inr q ↦ absurd (omega (arith, q .2 .under, mark-is s a v, pm-hd s a v τ w)) ]
 
   -- what a cut decides of a confirmed put
   abbrev Decided : ℕ → ℕ → Type 0
@@ -141,19 +143,23 @@ module _ (s : State) (a : Account) (v : Inv s a) (τ : Tale) (w : Told s a τ) w
       kept : {i : ℕ} → rest s a v x ≡ i → i ≢ 0 → a .durable x ≡ i
       kept e z = let q = rest-is s a v x (λ d. z (sym e ∙ d)) in sym (q .2) ∙ e
 
-  fates : (x i : ℕ) → In i (τ .confirmed x) → ExactlyOne (τ .handed x ≡ i ∷ []) (In (entry x i) (queueOf (cellsOf s) (threadsOf s) (s .kept))) (Gone (threadsOf s) (h′ .cuts) x)
+  abbrev Fate : ℕ → ℕ → Type 0
+  Fate x i = ExactlyOne x i (τ .handed x) (queueOf (cellsOf s) (threadsOf s) (s .kept)) (Gone (threadsOf s) (h′ .cuts) x)
+
+  fates : (x i : ℕ) → In i (τ .confirmed x) → Fate x i
   fates x i m = elim (decided x) [
     | inl q ↦ absurd (List·Memᴰ·not-nil (rw q at m))
     | inr q ↦ (let e : i ≡ q .0 = List·Memᴰ·eq-of-singleton (rw (q .1) at m) in rw e (one (q .0) (q .2) (q .3) (decLe (f .head) x)))
   ]
     where
-      one : (i : ℕ) → i ≢ 0 → Decided x i → Dec (f .head ≤ x)
-          → ExactlyOne (τ .handed x ≡ i ∷ []) (In (entry x i) (queueOf (cellsOf s) (threadsOf s) (s .kept))) (Gone (threadsOf s) (h′ .cuts) x)
-      one i z d (yes l) = let k = d .0 l in
-          second (λ e. omega (arith, handed-low x i e)) (rw k at (in-queue x l (λ e. z (sym k ∙ e)))) (λ g. omega (arith, gone-is x g))
+      unqueued : x < f .head → Unqueued x (queueOf (cellsOf s) (threadsOf s) (s .kept))
+      unqueued l e m q = omega (arith, queue-low e m)
+
+      one : (i : ℕ) → i ≢ 0 → Decided x i → Dec (f .head ≤ x) → Fate x i
+      one i z d (yes l) = let k = d .0 l in second (unhanded x l) (rw k at (in-queue x l (λ e. z (sym k ∙ e)))) (λ g. omega (arith, gone-is x g))
       one i z d (no l) = elim (d .1 (omega arith)) [
-        | inl e ↦ first e (λ m. omega (arith, queue-low (entry x i) m)) (λ g. none-is-not (gone-is x g .1) e)
-        | inr g ↦ third (λ e. none-is-not (gone-is x g .1) e) (λ m. omega (arith, queue-low (entry x i) m)) g
+        | inl e ↦ first e (unqueued (omega arith)) (λ g. none-is-not (gone-is x g .1) e)
+        | inr g ↦ third (gone-is x g .1) (unqueued (omega arith)) g
       ]
 
   pub at-cut : Reached (cellsOf s) (threadsOf s) s a → event s CutEvent .answer ≡ Cut f → AtCut (cellsOf s) (threadsOf s) (s .kept) f a τ (tells τ CutEvent (Cut f))
@@ -174,22 +180,21 @@ whole : (R n : ℕ) (s : State) (a : Account) (τ : Tale) → Ran R n s a τ →
 whole R n s a τ w f e = let q = cut-finds s f e .1 in
     rw (q, sym (w .reached .cells), sym (w .reached .threads)) (at-cut s a (w .reached .inv) τ (w .told) (record { cells = refl; threads = refl; inv = w .reached .inv }) (rw q at e))
 
-from-landing : (s : State) (a : Account) (τ : Tale) → Told s a τ → (x i : ℕ) → In i (τ .handed x) → In i (τ .landings x)
-from-landing s a τ w x i = go (w .hands x)
-  where
-    go : HandsAt (markOf (cellsOf s) (threadsOf s) a) (a .head) (threadAt (s .control)) (a .landed) (τ .landings) (τ .handed) x → In i (τ .handed x) → In i (τ .landings x)
-    go (inl q) m = absurd (List·Memᴰ·not-nil (rw q at m))
-    go (inr (k, q, f)) m = Memᴰ·cast (List·Memᴰ·eq-of-singleton (rw q at m)) (f .from)
+next-fits : (R n : ℕ) (s : State) (a : Account) (τ : Tale) → Ran R n s a τ → (e : Event) → Fits n a τ (event s e .answer)
+next-fits R n s a τ w e = subst (λ m. Fits m a τ (event s e .answer)) (w .reached .threads) (fits s a (w .reached .inv) τ (w .told) e)
 
 -- demand 3
-pub demand-3 : (R n S : ℕ) (r k : List ℕ) → setupRefusal R n S r k ≡ 0 → (es : List Event) → Demand3 R n (freshState R n S r k) es
+pub demand-3 : Demand3Holds
 demand-3 R n S r k h es = record {
   within = within R n S r k h es;
   cut = λ f e. whole R n _ _ _ ran f e;
   heard = heard (freshState R n S r k) untold es;
   one-ok = λ x. one-or-none _ (ran .told .confs x);
+  landed-new = λ e b j i q. rw q at (next-fits R n _ _ _ ran e);
   one-item = λ x. one-or-none _ (ran .told .hands x);
-  item-landed = from-landing _ _ _ (ran .told);
+  item-landed = λ x. all-from (ran .told .hands x) (λ i y. y .from);
+  ok-landed = λ x. all-from (ran .told .confs x) (λ i y. y .from);
+  ok-durable = λ e b i q. rw q at (next-fits R n _ _ _ ran e);
 }
   where
     ran : Ran R n (after (freshState R n S r k) es) (account R n opened (answers (freshState R n S r k) es)) (tale untold es (answers (freshState R n S r k) es))

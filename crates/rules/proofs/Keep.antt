@@ -88,7 +88,7 @@ module _ (s : State) (h : Sound s) where
     kept = rw (a, b, d) (image-more (h .kept));
   }
 
-  begin : (i x p : ℕ) → i < s .control .ring .threads → isIdle (s .control) i ≡ true → s .control .ring .events < runLimit → P1 ≤ p → p ≤ T1 → (p ≤ 10 → x ≢ 0)
+  begin : (i x p : ℕ) → i < s .control .ring .threads → isIdle (threadAt (s .control) i) ≡ true → s .control .ring .events < runLimit → P1 ≤ p → p ≤ T1 → (p ≤ 10 → x ≢ 0)
       → Sound (state (counts (withThread (s .control) i (begins (threadAt (s .control) i) p x))) (s .running) (s .kept))
   unfolding withThread
   begin i x p l e f a b z =
@@ -98,7 +98,7 @@ module _ (s : State) (h : Sound s) where
       (rw q (one-thread (s .control) i (begins idle p x) (h .control) f (inr (busy p x 0 _ 0 None l a (omega arith) (omega (arith, r .some-tries)) refl z (omega arith)))))
       refl refl refl
 
-  step-sound : (i : ℕ) → i < s .control .ring .threads → isIdle (s .control) i ≡ false → s .control .ring .events < runLimit → Sound (stepThread s i .state)
+  step-sound : (i : ℕ) → i < s .control .ring .threads → isIdle (threadAt (s .control) i) ≡ false → s .control .ring .events < runLimit → Sound (stepThread s i .state)
   unfolding stepThread withThread threadAt
   step-sound i l e f =
       let g = s .control .ring in

@@ -11,6 +11,7 @@ pub mod Rows
 pub mod Accepted
 pub mod Keep
 pub mod Events
+pub mod Block
 pub mod Limit
 pub mod Kept
 pub mod Past

@@ -1,7 +1,7 @@
 -- An answer's number and values tell it from every other, a line's kind and place too.
 use Prim.Native.Nat.{ℕ}
 use mathlib.Core.Path.{_≡_, refl, sym, ap, _∙_}
-use mathlib.Core.List.{List}
+use mathlib.Core.List.{List, [], _∷_}
 use mathlib.Core.Bool.{cond}
 use lib.Dec.{eqb}
 use lib.ListN.{getD}
@@ -11,6 +11,7 @@ use Rattle.rules.specs.declared.Answer.{Answer}
 use Rattle.rules.specs.declared.Answer.the-variants.{Refused, Begun, Drew, Looked, SawHead, Landed, Missed, Asked, Waiting, Ok, Closed, SetClosed, Took, Flagged, Passed, SawTail, Lifted, Copied, Item, Empty, Written, Cut}
 use Rattle.rules.specs.Line.{lineKind, linePlace}
 use Rattle.rules.specs.Answers.{by, found, numbers}
+use Rattle.rules.specs.Block.{filledUp, six}
 
 -- the line of a kind and a place
 abbrev pub lineOf : ℕ → ℕ → Line
@@ -80,3 +81,17 @@ answer-back (Cut f) = refl
 
 pub numbers-one-to-one : (a b : Answer) → numbers a ≡ numbers b → a ≡ b
 numbers-one-to-one a b h = sym (answer-back a) ∙ (ap answerFrom h ∙ answer-back b)
+
+-- the same of an answer's six numbers in a block's room
+filled : (l : List ℕ) → answerFrom (filledUp 6 l) ≡ answerFrom l
+filled [] = refl
+filled (a ∷ []) = refl
+filled (a ∷ b ∷ []) = refl
+filled (a ∷ b ∷ c ∷ []) = refl
+filled (a ∷ b ∷ c ∷ d ∷ []) = refl
+filled (a ∷ b ∷ c ∷ d ∷ e ∷ []) = refl
+filled (a ∷ b ∷ c ∷ d ∷ e ∷ f ∷ l) = refl
+
+pub six-one-to-one : (a b : Answer) → six a ≡ six b → a ≡ b
+unfolding six
+six-one-to-one a b e = sym (filled (numbers a) ∙ answer-back a) ∙ (ap (λ l. answerFrom l) e ∙ (filled (numbers b) ∙ answer-back b))

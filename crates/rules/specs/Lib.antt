@@ -12,6 +12,7 @@ pub mod State
 pub mod Facts
 pub mod Refusals
 pub mod Events
+pub mod Block
 pub mod Listing
 pub mod Reader
 pub mod Cases

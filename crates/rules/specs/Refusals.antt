@@ -4,6 +4,9 @@ use mathlib.Core.List.{List}
 use mathlib.Core.Bool.{Bool, cond, _&&_, not}
 use lib.Dec.{eqb, ltb, leb}
 use lib.ListN.{length}
+use Rattle.rules.specs.declared.Line.{Line}
+use Rattle.rules.specs.declared.Thread.{Thread}
+use Rattle.rules.specs.declared.Ring.{Ring}
 use Rattle.rules.specs.declared.Control.{Control}
 use Rattle.rules.specs.declared.Event.{Event}
 use Rattle.rules.specs.declared.Event.the-variants.{Put, Take, Go, Back, Cut}
@@ -22,14 +25,14 @@ refuse b k next = cond b k next
 abbrev pub short : ℕ → ℕ → List ℕ → Bool
 short R n m = ltb (length m) (size R n)
 
-abbrev pub full : Control → Bool
-full c = eqb (c .ring .events) runLimit
+abbrev pub full : Ring → Bool
+full g = eqb (g .events) runLimit
 
-abbrev pub noThread : Control → ℕ → Bool
-noThread c i = leb (c .ring .threads) i
+abbrev pub noThread : Ring → ℕ → Bool
+noThread g i = leb (g .threads) i
 
-abbrev pub isIdle : Control → ℕ → Bool
-isIdle c i = eqb (threadAt c i .place) 0
+abbrev pub isIdle : Thread → Bool
+isIdle t = eqb (t .place) 0
 
 -- setup
 unfoldable pub setupRefusal : ℕ → ℕ → ℕ → List ℕ → List ℕ → ℕ
@@ -48,13 +51,28 @@ unsound s =
     (refuse (not (soundImage (g .cells) (g .threads) (g .events) (s .running))) 12
     (refuse (not (soundImage (g .cells) (g .threads) (g .events) (s .kept))) 12 0))))
 
--- what each event tests then
+-- what each event tests then; thread i is t
+abbrev pub putRefusal : Ring → ℕ → Thread → ℕ → ℕ
+putRefusal g i t x = refuse (full g) 7 (refuse (noThread g i) 2 (refuse (not (isIdle t)) 4 (refuse (eqb x 0) 6 0)))
+
+abbrev pub takeRefusal : Ring → ℕ → Thread → ℕ
+takeRefusal g i t = refuse (full g) 7 (refuse (noThread g i) 2 (refuse (not (isIdle t)) 4 0))
+
+abbrev pub goRefusal : Ring → ℕ → Thread → ℕ
+goRefusal g i t = refuse (full g) 7 (refuse (noThread g i) 2 (refuse (isIdle t) 5 0))
+
+abbrev pub backRefusal : Ring → Line → ℕ
+backRefusal g l = refuse (full g) 7 (refuse (not (lineExists (g .cells) (g .threads) l)) 3 0)
+
+abbrev pub cutRefusal : Ring → ℕ
+cutRefusal g = refuse (full g) 7 0
+
 unfoldable pub ownRefusal : Control → Event → ℕ
-ownRefusal c (Put i x) = refuse (full c) 7 (refuse (noThread c i) 2 (refuse (not (isIdle c i)) 4 (refuse (eqb x 0) 6 0)))
-ownRefusal c (Take i) = refuse (full c) 7 (refuse (noThread c i) 2 (refuse (not (isIdle c i)) 4 0))
-ownRefusal c (Go i) = refuse (full c) 7 (refuse (noThread c i) 2 (refuse (isIdle c i) 5 0))
-ownRefusal c (Back l) = refuse (full c) 7 (refuse (not (lineExists (c .ring .cells) (c .ring .threads) l)) 3 0)
-ownRefusal c Cut = refuse (full c) 7 0
+ownRefusal c (Put i x) = putRefusal (c .ring) i (threadAt c i) x
+ownRefusal c (Take i) = takeRefusal (c .ring) i (threadAt c i)
+ownRefusal c (Go i) = goRefusal (c .ring) i (threadAt c i)
+ownRefusal c (Back l) = backRefusal (c .ring) l
+ownRefusal c Cut = cutRefusal (c .ring)
 
 -- an event's refusal, by all its tests in order
 unfoldable pub refusal : State → Event → ℕ

@@ -2,31 +2,37 @@ use Prim.Native.Nat.{_≤_, _<_, _-_}
 use mathlib.Core.Path.{_≡_, refl, _∙_}
 use native.Mathlib.Numerals.{add-one}
 use native.Mathlib.Omega.{arith}
-use lib.ListN.{length, length-map}
+use lib.ListN.{length}
 use borrow.Author.Needs.{needs}
 use Rattle.rules.specs.Line.{released}
-use Rattle.rules.specs.Record.{threadAt, withThread, idle}
+use Rattle.rules.specs.Record.{idle}
 use Rattle.ring.proofs.Sweep.{sweepTo, sweep-next, sweep-all}
 use Rattle.ring.proofs.events.release_all.Statement.{statement}
 use Rattle.ring.proofs.events.release_all.Tie as tie
 
 abbrev Inv-loop : tie.InvT-loop
-Inv-loop c line d₀ i₀ d i = (i ≤ 8) × ((length (c .thread) ≡ 8) × (d ≡ record { ring = c .ring; thread = sweepTo (released line) (c .thread) i }))
+Inv-loop line threads after₀ i₀ after i = (i ≤ 8) × ((length threads ≡ 8) × (after ≡ sweepTo (released line) threads i))
 
 abbrev μ-loop : tie.MeasureT-loop
-μ-loop c line d₀ i₀ d i = 8 - i
+μ-loop line threads after₀ i₀ after i = 8 - i
 
 loop-holds : tie.Need-loop-holds Inv-loop μ-loop
-loop-holds c = (search needs, (simp length-map at (c .good .0 .1 .1 .1 .0 .1 .0 .1), refl))
+loop-holds c = (search needs, (c .good .1 .0 .1 .0 .1, refl))
 
-thread-at-requires : tie.Need-thread-at-requires Inv-loop μ-loop
-thread-at-requires c κs = search needs
+mul-t : tie.Need-mul-t Inv-loop μ-loop
+mul-t c = search needs
+
+array-copy-out-t : tie.Need-array-copy-out-t Inv-loop μ-loop
+array-copy-out-t c = search needs
 
 release-requires : tie.Need-release-requires Inv-loop μ-loop
 release-requires c κs = search needs
 
-with-thread-requires : tie.Need-with-thread-requires Inv-loop μ-loop
-with-thread-requires c κs = search needs
+mul-after : tie.Need-mul-after Inv-loop μ-loop
+mul-after c = search needs
+
+array-set-from-after : tie.Need-array-set-from-after Inv-loop μ-loop
+array-set-from-after c = search needs
 
 add-i : tie.Need-add-i Inv-loop μ-loop
 add-i c = search needs
@@ -35,18 +41,17 @@ loop-less : tie.Need-loop-less Inv-loop μ-loop
 loop-less c = search needs
 
 loop-again : tie.Need-loop-again Inv-loop μ-loop
-unfolding withThread threadAt
 loop-again c =
-    let i = c .before .before .before .before .loop in
-    let a = c .before .before .before .before .before .args in
-    let h : i .i < length (a .c .thread) = omega arith in
-    (search needs, (i .inv .1 .0, rw (add-one, c .with-thread .ensures, c .before .release .ensures, c .before .before .thread-at .ensures, i .inv .1 .1, sweep-next (released (a .line)) (a .c .thread) (i .i) idle h)))
+    let i = c .before .before .before .loop in
+    let a = c .before .before .before .before .args in
+    let h : i .i < length (a .t2) = omega arith in
+    (search needs, (i .inv .1 .0, rw (add-one, c .release .ensures, i .inv .1 .1, sweep-next (released (a .line)) (a .t2) (i .i) idle h)))
 
 returns : tie.Need-returns Inv-loop μ-loop
 returns c =
     let i = c .before .loop in
     let a = c .before .before .args in
-    let e : i .i ≡ length (a .c .thread) = omega arith in
+    let e : i .i ≡ length (a .t2) = omega arith in
     i .inv .1 .1 ∙ rw (e, sweep-all)
 
 pub release-all-spec : {M : Type 1} → statement M
@@ -56,9 +61,11 @@ release-all-spec =
     Inv-loop
     μ-loop
     loop-holds
-    thread-at-requires
+    mul-t
+    array-copy-out-t
     release-requires
-    with-thread-requires
+    mul-after
+    array-set-from-after
     add-i
     loop-less
     loop-again

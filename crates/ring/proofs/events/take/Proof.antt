@@ -1,27 +1,27 @@
-use mathlib.Core.Path.{sym, _∙_}
+use mathlib.Core.Path.{ap, _∙_}
+use Rattle.rules.specs.State.{state}
+use Rattle.rules.specs.Table.{Step}
+use Rattle.ring.specs.OneThread.{left}
+use Rattle.ring.proofs.OneThread.{take-left}
 use borrow.Author.Needs.{needs}
-use Rattle.rules.specs.Events.{beginTake, does}
-use Rattle.rules.proofs.Accepted.{take-accepted}
-use Rattle.rules.proofs.Events.{inner-refused, inner-does}
 use Rattle.ring.proofs.events.take.Statement.{statement}
 use Rattle.ring.proofs.events.take.Tie as tie
-
-of-take-requires : tie.Need-of-take-requires
-of-take-requires c κs = search needs
-
-returns : tie.Need-returns
-returns c = inner-refused _ _ _ (c .before .of-take .ensures) (c .if1 .taken)
 
 thread-at-requires : tie.Need-thread-at-requires
 thread-at-requires c κs = search needs
 
-begin-requires : tie.Need-begin-requires
-begin-requires c κs = take-accepted _ _ (c .before .before .before .before .before .pre .control) (sym (c .before .before .of-take .ensures) ∙ c .before .if1 .left) .0
+take-requires : tie.Need-take-requires
+take-requires c κs = search needs
 
-returns-2 : tie.Need-returns-2
-unfolding beginTake does
-returns-2 c = rw (c .begin .ensures, c .before .thread-at .ensures) (inner-does _ _ _ (c .before .before .before .of-take .ensures) (c .before .before .if1 .left))
+placed-requires : tie.Need-placed-requires
+placed-requires c κs = search needs
+
+returns : tie.Need-returns
+returns c =
+    let a = c .before .before .before .before .before .before .args in
+    let s = state (a .c) (a .running .now) (a .kept .now) in
+    let e = rw (c .before .before .thread-at .ensures) at (c .before .take .ensures (a .running .now)) in
+    rw (c .placed .ensures) (ap (λ (y : Step). left s (a .i) y) e ∙ take-left s (a .i))
 
 pub take-spec : {M : Type 1} → statement M
-take-spec =
-    tie.close (tie.spec of-take-requires returns thread-at-requires begin-requires returns-2)
+take-spec = tie.close (tie.spec thread-at-requires take-requires placed-requires returns)

@@ -1,14 +1,13 @@
-use borrow.Author.Tests.{eq-eqb, ne-eqb}
-use Rattle.rules.specs.Refusals.{ownRefusal}
+use borrow.Author.Needs.{needs}
+use mathlib.Core.Path.{refl, _≡_, ap, sym, _∙_}
+use borrow.Author.Tests.{eq-eqb, ne-eqb, le-leb, lt-leb, lt-ltb, le-ltb, not-true, not-false}
 use Rattle.ring.proofs.refusals.of_cut.Statement.{statement}
 use Rattle.ring.proofs.refusals.of_cut.Tie as tie
 
 returns : tie.Need-returns
-unfolding ownRefusal
 returns c = simp (eq-eqb _ _ (c .if1 .taken))
 
 returns-2 : tie.Need-returns-2
-unfolding ownRefusal
 returns-2 c = simp (ne-eqb _ _ (c .if1 .left))
 
 pub of-cut-spec : {M : Type 1} → statement M

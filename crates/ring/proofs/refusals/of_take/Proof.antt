@@ -1,27 +1,20 @@
 use borrow.Author.Needs.{needs}
-use borrow.Author.Tests.{eq-eqb, ne-eqb, le-leb, lt-leb, lt-ltb, le-ltb}
-use Rattle.rules.specs.Refusals.{ownRefusal}
+use mathlib.Core.Path.{refl, _≡_, ap, sym, _∙_}
+use borrow.Author.Tests.{eq-eqb, ne-eqb, le-leb, lt-leb, lt-ltb, le-ltb, not-true, not-false}
 use Rattle.ring.proofs.refusals.of_take.Statement.{statement}
 use Rattle.ring.proofs.refusals.of_take.Tie as tie
 
 returns : tie.Need-returns
-unfolding ownRefusal
 returns c = simp (eq-eqb _ _ (c .if1 .taken))
 
 returns-2 : tie.Need-returns-2
-unfolding ownRefusal
 returns-2 c = simp (ne-eqb _ _ (c .before .before .if1 .left), le-ltb _ _ (c .if2 .taken), le-leb _ _ (c .if2 .taken))
 
-thread-at-requires : tie.Need-thread-at-requires
-thread-at-requires c κs = search needs
-
 returns-3 : tie.Need-returns-3
-unfolding ownRefusal
-returns-3 c = simp (ne-eqb _ _ (c .before .before .before .before .before .if1 .left), lt-leb _ _ (c .before .before .before .if2 .left), lt-ltb _ _ (c .before .before .before .if2 .left), ← c .before .before .thread-at .ensures, ne-eqb _ _ (c .if3 .taken))
+returns-3 c = simp (ne-eqb _ _ (c .before .before .before .before .if1 .left), lt-leb _ _ (c .before .before .if2 .left), lt-ltb _ _ (c .before .before .if2 .left), ne-eqb _ _ (c .if3 .taken))
 
 returns-4 : tie.Need-returns-4
-unfolding ownRefusal
-returns-4 c = simp (ne-eqb _ _ (c .before .before .before .before .before .if1 .left), lt-leb _ _ (c .before .before .before .if2 .left), lt-ltb _ _ (c .before .before .before .if2 .left), ← c .before .before .thread-at .ensures, eq-eqb _ _ (c .if3 .left))
+returns-4 c = simp (ne-eqb _ _ (c .before .before .before .before .if1 .left), lt-leb _ _ (c .before .before .if2 .left), lt-ltb _ _ (c .before .before .if2 .left), eq-eqb _ _ (c .if3 .left))
 
 pub of-take-spec : {M : Type 1} → statement M
-of-take-spec = tie.close (tie.spec returns returns-2 thread-at-requires returns-3 returns-4)
+of-take-spec = tie.close (tie.spec returns returns-2 returns-3 returns-4)

@@ -2,8 +2,8 @@ use native.Mathlib.Omega.{arith}
 use borrow.Author.Needs.{needs}
 use borrow.Author.Tests.{lt-ltb, le-ltb}
 use Rattle.rules.specs.Table.{row}
-use Rattle.ring.proofs.events.row.Statement.{statement}
-use Rattle.ring.proofs.events.row.Tie as tie
+use Rattle.ring.proofs.one.row.Statement.{statement}
+use Rattle.ring.proofs.one.row.Tie as tie
 
 put-row-requires : tie.Need-put-row-requires
 put-row-requires c κs = search needs
