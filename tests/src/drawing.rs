@@ -3,8 +3,10 @@
 use std::fmt::Write;
 
 pub const LEFT: &str = "text-anchor=\"start\"";
+pub const BOLD: &str = "font-weight=\"bold\"";
 pub const MIDDLE: &str = "text-anchor=\"middle\"";
 pub const MIDDLE_BOLD: &str = "text-anchor=\"middle\" font-weight=\"bold\"";
+pub const MIDDLE_SMALL: &str = "text-anchor=\"middle\" font-size=\"11\"";
 
 pub struct Drawing(String);
 
