@@ -174,16 +174,22 @@ fn first_lines_and_edges() {
     assert_eq!(program(b"ring 0 2 16\ngo 0\n", 99), b"refused 1 1\nend 0\n");
 }
 
+// The program reads 65,536 bytes at a time and runs up to 256 lines in one call.
 #[test]
 fn block_borders_make_no_difference() {
     let mut random = Random(714);
     let shape = shape(&mut random, 5, 4, 4);
-    let text = script(shape, &run(&mut random, shape, 3000));
-    let mut input = damaged(&mut random, &text);
-    input.extend_from_slice(b"go 0");
-    assert!(input.len() > 3 * 4096);
-    for part in [1, 2, 40, 41, 42, 4095, 4096, 4097, 8192, input.len()] {
-        compare(714, &input, part);
+    for (events, parts) in [
+        (3000, [1, 2, 40, 41, 42, 4097]),
+        (40_000, [511, 65_535, 65_536, 65_537, 131_072, 1 << 20]),
+    ] {
+        let text = script(shape, &run(&mut random, shape, events));
+        let mut input = damaged(&mut random, &text);
+        input.extend_from_slice(b"go 0");
+        assert!(input.len() > 5 * events as usize);
+        for part in parts {
+            compare(714, &input, part);
+        }
     }
 }
 

@@ -8,4 +8,8 @@ pub mod Examples
 pub mod Stream
 pub mod Running
 pub mod Blocks
+pub mod Stored
+pub mod Gathering
+pub mod Counting
+pub mod Telling
 pub mod Tied

@@ -1,5 +1,5 @@
 -- What the code does to a block is what a byte at a time does to the bytes that it has used.
-use Prim.Native.Nat.{ℕ, suc, _+_, _<_}
+use Prim.Native.Nat.{ℕ, suc, _+_, _-_, _<_}
 use mathlib.Core.Path.{_≡_, refl, ap, sym, _∙_}
 use mathlib.Core.List.{List, [], _∷_, _++_}
 use mathlib.Core.Bool.{Bool, true, false}
@@ -11,7 +11,7 @@ use lib.Seq.{sets, take-suc-set}
 use lib.Dec.{eqb, ltb}
 use borrow.Author.Tests.{ltb-true, le-leb}
 use Rattle.bench.specs.Bench.{Run, ranLine, lineSays}
-use Rattle.bench.specs.Block.{keepCarry, keepLen, hasRoom, Poured, poured, pour, finished}
+use Rattle.bench.specs.Block.{keepCarry, keepLen, Poured, poured, pour, finished}
 use Rattle.bench.specs.Stream.{Fed, fedTo, keepByte, feedByte, saysByte, says, finish}
 use Rattle.bench.specs.Tied.{Held, Tied, PoursFed, FinishesFed}
 use Rattle.bench.proofs.Printing.{sets-append}
@@ -78,33 +78,33 @@ unfolding feedByte saysByte
 at-byte g line i b bs out at r e t = simp (e, add-zero) t
 
 TiedAll : List ℕ → Type 0
-TiedAll l = (g : Run) (c line : List ℕ) (n i : ℕ) (out : List ℕ) (at : ℕ) → Held c n line
-    → Tied (fedTo g line) i l out at (pour g c n i l out at)
+TiedAll l = (m : ℕ) (g : Run) (c line : List ℕ) (n i : ℕ) (out : List ℕ) (at : ℕ) → Held c n line
+    → Tied (fedTo g line) i l out at (pour m g c n i l out at)
 
-room-by : (u : Bool) (g : Run) (c line : List ℕ) (n i b : ℕ) (bs out : List ℕ) (at : ℕ) → Held c n line → eqb b 10 ≡ true → hasRoom 2048 out at ≡ u
-    → TiedAll bs → Tied (fedTo g line) i (b ∷ bs) out at (pour g c n i (b ∷ bs) out at)
+room-by : (u : Bool) (m : ℕ) (g : Run) (c line : List ℕ) (n i b : ℕ) (bs out : List ℕ) (at : ℕ) → Held c n line → eqb b 10 ≡ true → eqb m 0 ≡ u
+    → TiedAll bs → Tied (fedTo g line) i (b ∷ bs) out at (pour m g c n i (b ∷ bs) out at)
 unfolding TiedAll
-room-by true g c line n i b bs out at h e f a =
+room-by true m g c line n i b bs out at h e f a = simp (e, f) (stay g c line n i (b ∷ bs) out at h)
+room-by false m g c line n i b bs out at h e f a =
     simp (e, f, h .bytes) (more (fedTo g line) i b bs out at _ (at-line g line i b bs out at _ e
-    (a (ranLine g line) c [] 0 (i + 1) (sets out at (lineSays g line)) (at + length (lineSays g line)) (held-none c line n h))))
-room-by false g c line n i b bs out at h e f a = simp (e, f) (stay g c line n i (b ∷ bs) out at h)
+    (a (m - 1) (ranLine g line) c [] 0 (i + 1) (sets out at (lineSays g line)) (at + length (lineSays g line)) (held-none c line n h))))
 
-byte-by : (t : Bool) (g : Run) (c line : List ℕ) (n i b : ℕ) (bs out : List ℕ) (at : ℕ) → Held c n line → eqb b 10 ≡ t
-    → TiedAll bs → Tied (fedTo g line) i (b ∷ bs) out at (pour g c n i (b ∷ bs) out at)
+byte-by : (t : Bool) (m : ℕ) (g : Run) (c line : List ℕ) (n i b : ℕ) (bs out : List ℕ) (at : ℕ) → Held c n line → eqb b 10 ≡ t
+    → TiedAll bs → Tied (fedTo g line) i (b ∷ bs) out at (pour m g c n i (b ∷ bs) out at)
 unfolding TiedAll
-byte-by true g c line n i b bs out at h e a = room-by (hasRoom 2048 out at) g c line n i b bs out at h e refl a
-byte-by false g c line n i b bs out at h e a =
+byte-by true m g c line n i b bs out at h e a = room-by (eqb m 0) m g c line n i b bs out at h e refl a
+byte-by false m g c line n i b bs out at h e a =
     simp e (more (fedTo g line) i b bs out at _ (at-byte g line i b bs out at _ e
-    (a g (keepCarry c n b) (keepByte line b) (keepLen n) (i + 1) out at (held c line n b h))))
+    (a m g (keepCarry c n b) (keepByte line b) (keepLen n) (i + 1) out at (held c line n b h))))
 
 tied : (l : List ℕ) → TiedAll l
 unfolding TiedAll
-tied [] g c line n i out at h = stay g c line n i [] out at h
-tied (b ∷ bs) g c line n i out at h = byte-by (eqb b 10) g c line n i b bs out at h refl (tied bs)
+tied [] m g c line n i out at h = stay g c line n i [] out at h
+tied (b ∷ bs) m g c line n i out at h = byte-by (eqb b 10) m g c line n i b bs out at h refl (tied bs)
 
 pub pours-fed : PoursFed
 unfolding TiedAll
-pours-fed r c line n i l out at h = tied l r c line n i out at h
+pours-fed m r c line n i l out at h = tied l m r c line n i out at h
 
 pub finishes-fed : FinishesFed
 unfolding finished finish

@@ -1,5 +1,5 @@
 -- A block of input as the code runs it: a carry of 41 bytes, of which a full one means that the line is too long, and a buffer that can be full.
-use Prim.Native.Nat.{ℕ, _+_}
+use Prim.Native.Nat.{ℕ, _+_, _-_, _/_}
 use mathlib.Core.List.{List, [], _∷_}
 use mathlib.Core.Bool.{Bool, cond}
 use lib.ListN.{length, set, take}
@@ -41,15 +41,19 @@ pub record Poured : Type 0 where
 abbrev pub poured : Run → List ℕ → ℕ → ℕ → List ℕ → ℕ → Poured
 poured r c n i out at = record { run = r; carry = c; len = n; next = i; out = out; at = at }
 
--- a block from place i on, until it is over or there is no room for another line's output
-abbrev pub pour : Run → List ℕ → ℕ → ℕ → List ℕ → List ℕ → ℕ → Poured
-pour r c n i [] out at = poured r c n i out at
-pour r c n i (b ∷ bs) out at =
+-- how many lines have room for their output: each prints at most 2,048 bytes
+unfoldable pub lineRoom : List ℕ → ℕ → ℕ
+lineRoom out at = (length out - at) / 2048
+
+-- a block from place i on, until it is over or m lines were run
+abbrev pub pour : ℕ → Run → List ℕ → ℕ → ℕ → List ℕ → List ℕ → ℕ → Poured
+pour m r c n i [] out at = poured r c n i out at
+pour m r c n i (b ∷ bs) out at =
     cond (eqb b 10)
-    (cond (hasRoom 2048 out at)
-    (pour (ranLine r (take n c)) c 0 (i + 1) bs (sets out at (lineSays r (take n c))) (at + length (lineSays r (take n c))))
-    (poured r c n i out at))
-    (pour r (keepCarry c n b) (keepLen n) (i + 1) bs out at)
+    (cond (eqb m 0)
+    (poured r c n i out at)
+    (pour (m - 1) (ranLine r (take n c)) c 0 (i + 1) bs (sets out at (lineSays r (take n c))) (at + length (lineSays r (take n c)))))
+    (pour m r (keepCarry c n b) (keepLen n) (i + 1) bs out at)
 
 pub record Finished : Type 0 where
   pub run : Run

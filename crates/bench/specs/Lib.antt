@@ -8,4 +8,5 @@ pub mod Stream
 pub mod Examples
 pub mod Unique
 pub mod Block
+pub mod Gather
 pub mod Tied

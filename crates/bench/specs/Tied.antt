@@ -22,7 +22,7 @@ Tied s i l out at r =
     × ((r .out ≡ sets out at (says s (take k l))) × (r .at ≡ at + length (says s (take k l)))))))
 
 abbrev pub PoursFed : Type 0
-PoursFed = (r : Run) (c line : List ℕ) (n i : ℕ) (l out : List ℕ) (at : ℕ) → Held c n line → Tied (fedTo r line) i l out at (pour r c n i l out at)
+PoursFed = (m : ℕ) (r : Run) (c line : List ℕ) (n i : ℕ) (l out : List ℕ) (at : ℕ) → Held c n line → Tied (fedTo r line) i l out at (pour m r c n i l out at)
 
 -- the end prints what is left to print
 abbrev pub FinishesFed : Type 0

@@ -1,8 +1,11 @@
 // A block of text: lines are carried from one block to the next.
+use crate::read;
+use crate::read::Command;
 ghost use mathlib.Core.Path.{_≡_};
 ghost use Prim.Native.Nat.{_+_, _<_, _≤_};
-ghost use lib.ListN.{length, drop, getD};
-ghost use Rattle.bench.specs.Block.{keepCarry, keepLen, scanOf, hasRoom};
+ghost use lib.ListN.{length, drop, getD, take};
+ghost use Rattle.bench.specs.Read.{lineOf};
+ghost use Rattle.bench.specs.Block.{keepCarry, keepLen, scanOf, hasRoom, lineRoom};
 
 // How many bytes the carry holds after a line's part, and the place where the part ended.
 pub struct Scan {
@@ -40,6 +43,16 @@ pub fn scan_line(block: &[u8], from: usize, carry: &mut [u8; 41], len: usize) ->
     Scan { len: n, next: i }
 }
 
+// The command of the line that the first n bytes of the carry hold.
+pub fn command(carry: &[u8], n: usize) -> Command
+    ensures { λ r. ⌜ r ≡ lineOf (take n (now (carry .entry))) ⌝ }
+{
+    if n < carry.len() {
+        return read::line(&carry[..n]);
+    }
+    read::line(carry)
+}
+
 // Whether there is room for that many bytes.
 pub fn has_room(out: &[u8], at: usize, need: usize) -> bool
     ensures { λ r. ⌜ r ≡ hasRoom need (now (out .entry)) at ⌝ }
@@ -48,4 +61,14 @@ pub fn has_room(out: &[u8], at: usize, need: usize) -> bool
         return false;
     }
     at <= out.len() - need
+}
+
+// How many lines have room for their output.
+pub fn line_room(out: &[u8], at: usize) -> usize
+    ensures { λ r. ⌜ r ≡ lineRoom (now (out .entry)) at ⌝ }
+{
+    if out.len() < at {
+        return 0;
+    }
+    (out.len() - at) / 2048
 }

@@ -1,15 +1,17 @@
 // ringrun's text: a line read, blocks of text run over the ring, answers printed. Public entries, which take anything.
 mod block;
+mod gather;
 mod print;
 pub mod read;
 mod run;
+mod tell;
 
 use rules::Control;
 ghost use mathlib.Core.Path.{_≡_};
 ghost use Prim.Native.Nat.{_+_, _<_, _≤_};
 ghost use lib.ListN.{length, drop};
 ghost use Rattle.bench.specs.Bench.{runWith, freshBench};
-ghost use Rattle.bench.specs.Block.{poured, pour, finished};
+ghost use Rattle.bench.specs.Block.{poured, lineRoom, pour, finished};
 
 // Before the first line, running, or ended by a refused first line.
 pub enum Phase {
@@ -53,7 +55,7 @@ impl Bench {
     }
 }
 
-// A block of input from a place on, until it is over or the buffer has no room for another line's output.
+// A block of input from a place on, until it is over or as many lines were run as the buffer has room for, at 2,048 bytes each.
 pub fn feed(
     bench: Bench,
     carry: &mut [u8; 41],
@@ -65,15 +67,20 @@ pub fn feed(
     out: &mut [u8],
     at: usize,
 ) -> Fed
-    ensures { λ r. ⌜ poured (runWith (r .bench) (now (running .exit)) (now (kept .exit))) (now (carry .exit)) (r .len) (r .next) (now (out .exit)) (r .at) ≡ pour (runWith bench (now (running .entry)) (now (kept .entry))) (now (carry .entry)) len from (drop from (now (block .entry))) (now (out .entry)) at ⌝ }
+    ensures { λ r. ⌜ poured (runWith (r .bench) (now (running .exit)) (now (kept .exit))) (now (carry .exit)) (r .len) (r .next) (now (out .exit)) (r .at) ≡ pour (lineRoom (now (out .entry)) at) (runWith bench (now (running .entry)) (now (kept .entry))) (now (carry .entry)) len from (drop from (now (block .entry))) (now (out .entry)) at ⌝ }
     ensures { λ r. ⌜ (at ≤ length (now (out .entry)) → r .at ≤ length (now (out .exit))) × (from < length (now (block .entry)) → at + 2048 ≤ length (now (out .entry)) → from < r .next) ⌝ }
 {
     let mut b = bench;
     let mut n = len;
     let mut i = from;
     let mut p = at;
+    let mut left = block::line_room(out, at);
     while i < block.len() {
-        let s = block::scan_line(block, i, carry, n);
+        let g = tell::run_lines(b, carry, n, running, kept, block, i, left, out, p);
+        b = g.bench;
+        p = g.at;
+        left = g.left;
+        let s = block::scan_line(block, g.next, carry, g.len);
         n = s.len;
         i = s.next;
         if block.len() <= i {
@@ -84,7 +91,7 @@ pub fn feed(
                 at: p,
             };
         }
-        if !block::has_room(out, p, 2048) {
+        if left == 0 {
             return Fed {
                 bench: b,
                 len: n,
@@ -97,6 +104,7 @@ pub fn feed(
         p = r.at;
         n = 0;
         i += 1;
+        left -= 1;
     }
     Fed {
         bench: b,

@@ -1,9 +1,9 @@
 // Lines run over the ring.
 use crate::Bench;
 use crate::Phase;
+use crate::block;
 use crate::print;
 use crate::print::Said;
-use crate::read;
 use crate::read::Command;
 use rules::Control;
 use rules::Event;
@@ -25,7 +25,7 @@ pub struct Ran {
 }
 
 // The next line's number. A count of 64 bits stays at its largest number.
-fn next_line(l: u64) -> u64
+pub fn next_line(l: u64) -> u64
     ensures { λ r. ⌜ r ≡ nextLine l ⌝ }
 {
     if l < 18446744073709551615 {
@@ -223,19 +223,20 @@ fn later_line(
     }
 }
 
-// A line, without its newline.
-pub fn run_line(
+// The line that the first n bytes of the carry hold.
+pub fn run_carried(
     b: Bench,
-    line: &[u8],
+    carry: &[u8],
+    n: usize,
     running: &mut [u32],
     kept: &mut [u32],
     out: &mut [u8],
     at: usize,
 ) -> Ran
     requires { ⌜ at + 2048 ≤ length (now out) ⌝ }
-    ensures { λ r. ⌜ LineRan (ranLine (runWith b (now (running .entry)) (now (kept .entry))) (now (line .entry))) (lineSays (runWith b (now (running .entry)) (now (kept .entry))) (now (line .entry))) (now (out .entry)) at (r .bench) (now (running .exit)) (now (kept .exit)) (now (out .exit)) (r .at) ⌝ }
+    ensures { λ r. ⌜ LineRan (ranLine (runWith b (now (running .entry)) (now (kept .entry))) (take n (now (carry .entry)))) (lineSays (runWith b (now (running .entry)) (now (kept .entry))) (take n (now (carry .entry)))) (now (out .entry)) at (r .bench) (now (running .exit)) (now (kept .exit)) (now (out .exit)) (r .at) ⌝ }
 {
-    let c = read::line(line);
+    let c = block::command(carry, n);
     let l = next_line(b.lines);
     let control = b.control;
     let phase = b.phase;
@@ -251,25 +252,6 @@ pub fn run_line(
             at,
         },
     }
-}
-
-// The line that the first n bytes of the carry hold.
-pub fn run_carried(
-    b: Bench,
-    carry: &[u8],
-    n: usize,
-    running: &mut [u32],
-    kept: &mut [u32],
-    out: &mut [u8],
-    at: usize,
-) -> Ran
-    requires { ⌜ at + 2048 ≤ length (now out) ⌝ }
-    ensures { λ r. ⌜ LineRan (ranLine (runWith b (now (running .entry)) (now (kept .entry))) (take n (now (carry .entry)))) (lineSays (runWith b (now (running .entry)) (now (kept .entry))) (take n (now (carry .entry)))) (now (out .entry)) at (r .bench) (now (running .exit)) (now (kept .exit)) (now (out .exit)) (r .at) ⌝ }
-{
-    if n < carry.len() {
-        return run_line(b, &carry[..n], running, kept, out, at);
-    }
-    run_line(b, carry, running, kept, out, at)
 }
 
 // Whether a line is still to be run at the end: it has bytes, or none was read.

@@ -82,8 +82,8 @@ fn turn_on(
     len: usize,
     running: &mut [u32; 266],
     kept: &mut [u32; 266],
-    block: &mut [u8; 4096],
-    out: &mut [u8; 8192],
+    block: &mut [u8; 65536],
+    out: &mut [u8; 524288],
 ) -> Poured {
     turn(b, carry, len, running, kept, block, out)
 }
@@ -108,7 +108,7 @@ fn finish_on(
     len: usize,
     running: &mut [u32; 266],
     kept: &mut [u32; 266],
-    out: &mut [u8; 8192],
+    out: &mut [u8; 524288],
 ) {
     finish(b, carry, len, running, kept, out);
 }
@@ -117,8 +117,8 @@ fn main() {
     let mut carry = [0u8; 41];
     let mut running = [0u32; 266];
     let mut kept = [0u32; 266];
-    let mut block = [0u8; 4096];
-    let mut out = [0u8; 8192];
+    let mut block = [0u8; 65536];
+    let mut out = [0u8; 524288];
     let mut b = Bench::fresh();
     let mut len = 0;
     let mut turns = u64::MAX;

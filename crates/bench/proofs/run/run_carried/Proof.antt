@@ -1,16 +1,31 @@
-use mathlib.Core.Path.{sym}
+use mathlib.Core.Path.{refl}
 use native.Mathlib.Omega.{arith}
-use denote.Ref.{now}
-use lib.Seq.{take-all, length-take-le}
+use Rattle.bench.proofs.Printing.{none}
+use Rattle.bench.specs.Bench.{ranLine, lineSays}
 use borrow.Author.Needs.{needs}
 use Rattle.bench.proofs.run.run_carried.Statement.{statement}
 use Rattle.bench.proofs.run.run_carried.Tie as tie
 
-slice-aggregate-run-line : tie.Need-slice-aggregate-run-line
-slice-aggregate-run-line c = sym (length-take-le _ (now (c .before .before .before .before .before .before .args .carry)) (omega arith))
+command-requires : tie.Need-command-requires
+command-requires c κs = search needs
 
-run-line-requires : tie.Need-run-line-requires
-run-line-requires c κs = search needs
+next-line-requires : tie.Need-next-line-requires
+next-line-requires c κs = search needs
+
+enum-told : tie.Need-enum-told
+enum-told c = search needs
+
+first-line-requires : tie.Need-first-line-requires
+first-line-requires c κs = search needs
+
+enum-told-2 : tie.Need-enum-told-2
+enum-told-2 c = search needs
+
+later-line-requires : tie.Need-later-line-requires
+later-line-requires c κs = search needs
+
+enum-told-3 : tie.Need-enum-told-3
+enum-told-3 c = search needs
 
 same-length : tie.Need-same-length
 same-length c = search needs
@@ -22,10 +37,8 @@ same-length-3 : tie.Need-same-length-3
 same-length-3 c = search needs
 
 returns : tie.Need-returns
-returns c = search needs
-
-run-line-requires-2 : tie.Need-run-line-requires-2
-run-line-requires-2 c κs = search needs
+unfolding ranLine lineSays
+returns c = rw (c .before .before .before .before .before .before .before .before .before .before .enum-told .given .1, ← c .before .before .before .before .before .before .before .before .before .before .before .before .before .before .command .ensures, ← c .before .before .before .before .before .before .before .before .before .before .before .before .before .next-line .ensures) (c .before .before .before .before .before .before .first-line .ensures)
 
 same-length-4 : tie.Need-same-length-4
 same-length-4 c = search needs
@@ -37,20 +50,30 @@ same-length-6 : tie.Need-same-length-6
 same-length-6 c = search needs
 
 returns-2 : tie.Need-returns-2
-returns-2 c = rw (take-all (c .before .before .before .before .before .before .before .before .before .before .before .before .before .before .before .args .n) (now (c .before .before .before .before .before .before .before .before .before .before .before .before .before .before .before .args .carry)) (c .before .before .before .before .before .before .before .before .before .before .if1 .left)) (c .before .before .before .before .before .before .run-line2 .ensures)
+unfolding ranLine lineSays
+returns-2 c = rw (c .before .before .before .before .before .before .before .before .before .before .enum-told2 .given .1, ← c .before .before .before .before .before .before .before .before .before .before .before .before .before .before .command .ensures, ← c .before .before .before .before .before .before .before .before .before .before .before .before .before .next-line .ensures) (c .before .before .before .before .before .before .later-line .ensures)
+
+returns-3 : tie.Need-returns-3
+unfolding ranLine lineSays
+returns-3 c = rw (c .enum-told3 .given .1, ← c .before .before .before .next-line .ensures) (record { run = refl; wrote = none _ _; near = omega arith })
 
 pub run-carried-spec : {M : Type 1} → statement M
 run-carried-spec =
     tie.close
     (tie.spec
-    slice-aggregate-run-line
-    run-line-requires
+    command-requires
+    next-line-requires
+    enum-told
+    first-line-requires
+    enum-told-2
+    later-line-requires
+    enum-told-3
     same-length
     same-length-2
     same-length-3
     returns
-    run-line-requires-2
     same-length-4
     same-length-5
     same-length-6
-    returns-2)
+    returns-2
+    returns-3)
