@@ -44,7 +44,7 @@ fromKept R n S e m = gives (cond (eqb (keptRefusal R n S e m) 0) (Cut (finds R n
 abbrev pub go : ℕ → ℕ → List Event
 go i k = replicate k (Go i)
 
--- a put by thread 0 that lands at once under number x in cell j and is confirmed
+-- a put by thread 0 that lands at once in cell j and is confirmed
 abbrev pub puts : ℕ → ℕ → List Event
 puts j i = Put 0 i ∷ go 0 4 ++ Back (CellLine j) ∷ go 0 1
 
