@@ -11,7 +11,6 @@ use lib.ListN.{length, set, getD}
 use Rattle.rules.specs.declared.Thread.{Thread}
 use Rattle.rules.specs.declared.Ring.{Ring}
 use Rattle.rules.specs.declared.Control.{Control}
-use Rattle.rules.specs.declared.Moved.{Moved}
 use Rattle.rules.specs.declared.Answer.the-variants.{Refused}
 use Rattle.rules.specs.declared.Line.the-variants.{Cell, Copy, Tail}
 use Rattle.rules.specs.declared.Event.the-variants.{Put, Take, Go, Back, Cut}
@@ -21,9 +20,9 @@ use Rattle.rules.specs.Record.{idle, threadAt, withThread}
 use Rattle.rules.specs.Facts.{Ready, Sound}
 use Rattle.rules.proofs.Tests.{unrefused}
 use Rattle.rules.proofs.Keep.{busy-at}
-use Rattle.rules.specs.State.{State, state, Out, out, refused, accept}
+use Rattle.rules.specs.State.{State, state, out, refused, accept}
 use Rattle.rules.specs.Refusals.{refuse, full, noThread, isIdle, ownRefusal, putRefusal, takeRefusal, goRefusal}
-use Rattle.rules.specs.Table.{Step, leaves, row}
+use Rattle.rules.specs.Table.{Step, leaves}
 use Rattle.rules.specs.Events.{beginPut, beginTake, stepThread, does, inner}
 use Rattle.ring.specs.OneThread.{moved, unless, putOf, takeOf, goOf, oneOf, left}
 

@@ -21,7 +21,7 @@ ghost use Rattle.rules.specs.Numbers.{maxCells, maxThreads, runLimit};
 ghost use Rattle.rules.specs.Record.{controlOf, headed};
 ghost use Rattle.rules.specs.Memory.{size};
 ghost use Rattle.rules.specs.Line.{carriesCell, carriesCopy, carriesTail, carried, ends, released, lineExists};
-ghost use Rattle.rules.specs.State.{state, out, outcome};
+ghost use Rattle.rules.specs.State.{state, out};
 ghost use Rattle.rules.specs.Facts.{Sound};
 ghost use Rattle.rules.specs.declared.Event.the-variants.{Put, Take, Go, Back, Cut};
 ghost use Rattle.rules.specs.Events.{counts, inner};

@@ -7,10 +7,9 @@ ghost use mathlib.Core.Path.{_≡_};
 ghost use Prim.Native.Nat.{ℕ, _≤_, _+_, _*_, _<_};
 ghost use lib.ListN.{length};
 ghost use Rattle.rules.specs.Numbers.{maxCells, maxThreads, runLimit};
-ghost use Rattle.rules.specs.Upto.{maxTo, countTo};
+ghost use Rattle.rules.specs.Upto.{maxTo};
 ghost use Rattle.rules.specs.Memory.{size, cellAt, copyAt, cellsTo, copiesTo};
-ghost use Rattle.rules.specs.Cut.{passMark, queued, tailOf, headTo, headOf, countOf, finds, mended, recovered};
-ghost use Rattle.rules.specs.Facts.{InRange, SoundCell, SoundImage};
+ghost use Rattle.rules.specs.Cut.{passMark, queued, tailOf, headTo, countOf, finds, mended, recovered};
 
 // The largest mark.
 fn top_mark(cells: u32, m: &[u32]) -> u32

@@ -4,7 +4,7 @@ use mathlib.Core.Path.{_≡_}
 use mathlib.Core.List.{List}
 use lib.Seq.{sets}
 use Rattle.rules.specs.State.{State, Out}
-use Rattle.rules.specs.Block.{six, Upto, upto, eventRuns, one, runTo}
+use Rattle.rules.specs.Block.{six, upto, eventRuns, one, runTo}
 
 pub one-more : (s t : State) (block room now : List ℕ) (k : ℕ) (o : Out) → o ≡ eventRuns t block k → upto t now ≡ runTo s block room k
     → upto (o .state) (sets now (6 * k) (six (o .answer))) ≡ runTo s block room (suc k)

@@ -1,5 +1,5 @@
 -- Each row of a take keeps the invariant, so each row does.
-use Prim.Native.Nat.{ℕ, _+_, _-_, _%_, _<_, _≤_, max}
+use Prim.Native.Nat.{ℕ, _+_, _%_, _<_, _≤_, max}
 use mathlib.Core.Path.{_≡_, refl, sym, ap, _∙_}
 use mathlib.Core.Logic.{_≢_, inl}
 use native.Mathlib.Omega.{arith}

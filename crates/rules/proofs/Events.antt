@@ -1,22 +1,19 @@
 -- Accepted and refused events: a refused one changes nothing; an accepted one keeps all sound and adds exactly 1 to the event count.
-use Prim.Native.Nat.{ℕ, _+_, _≤_, _<_}
-use mathlib.Core.Path.{_≡_, refl, ap, _∙_}
+use Prim.Native.Nat.{ℕ, _+_, _≤_}
+use mathlib.Core.Path.{_≡_, refl, ap}
 use mathlib.Core.Logic.{_≢_}
 use mathlib.Core.Bool.{Bool, true, false, cond}
-use mathlib.Core.List.{List}
 use native.Mathlib.Omega.{arith}
 use lib.Dec.{eqb}
 use borrow.Author.Tests.{eqb-true, eqb-false, eq-eqb, ne-eqb}
 use Rattle.rules.specs.declared.Event.{Event}
 use Rattle.rules.specs.declared.Event.the-variants.{Put, Take, Go, Back, Cut as CutEvent}
 use Rattle.rules.specs.Numbers.{runLimit}
-use Rattle.rules.specs.declared.Moved.{Moved}
-use Rattle.rules.specs.Record.{threadAt, withThread, withRing}
-use Rattle.rules.specs.State.{State, state, out, refused, accept}
+use Rattle.rules.specs.Record.{threadAt, withThread}
+use Rattle.rules.specs.State.{State, state, refused, accept}
 use Rattle.rules.specs.Refusals.{unsound, ownRefusal, refusal}
-use Rattle.rules.specs.Events.{counts, beginPut, beginTake, stepThread, writeBack, cut, does, inner, event}
-use Rattle.rules.specs.Table.{Step, leaves, row}
-use Rattle.rules.specs.Facts.{Ready, Sound}
+use Rattle.rules.specs.Events.{beginPut, beginTake, stepThread, writeBack, cut, does, inner, event}
+use Rattle.rules.specs.Facts.{Sound}
 use Rattle.rules.proofs.Sound.{sound-of, of-sound}
 use Rattle.rules.proofs.Accepted.{go-accepted}
 use Rattle.rules.proofs.Rows.{keep-row}
@@ -79,33 +76,6 @@ inner-refused s e k q z = rw (← q, ne-eqb k 0 z)
 pub inner-does : (s : State) (e : Event) (k : ℕ) → k ≡ ownRefusal (s .control) e → k ≡ 0 → does s e ≡ inner s e
 unfolding inner accept
 inner-does s e k q z = rw (← q, eq-eqb k 0 z)
-
--- what a row needs is there where a step is not refused
-pub ready : (s : State) (i : ℕ) → Sound s → ownRefusal (s .control) (Go i) ≡ 0
-    → Ready (s .control .ring) i (threadAt (s .control) i) (s .running) × (s .control .ring .events < runLimit)
-ready s i h q =
-    let a = go-accepted (s .control) i (h .control) q in (
-      record {
-        ring = h .control .ring;
-        thread = busy-at (h .control .threads i (omega (arith, h .control .ring .range .most-threads))) (eqb-false _ _ (a .2));
-        long = h .long-running;
-        image = h .running;
-      },
-      a .0,
-    )
-
--- a step by what its row leaves
-pub step-by : (s : State) (i : ℕ) (r : Moved) (m : List ℕ) → leaves r m ≡ row (s .control .ring) i (threadAt (s .control) i) (s .running)
-    → out (state (counts (withThread (withRing (s .control) (r .ring)) i (r .thread))) m (s .kept)) (r .answer) ≡ stepThread s i
-unfolding stepThread
-step-by s i r m e = rw (← e)
-
--- a row leaves the event count
-pub row-events : (s : State) (i : ℕ) (r : Moved) (m : List ℕ) → Sound s → ownRefusal (s .control) (Go i) ≡ 0
-    → leaves r m ≡ row (s .control .ring) i (threadAt (s .control) i) (s .running) → r .ring .events ≡ s .control .ring .events
-row-events s i r m h q e =
-    let y = ready s i h q .0 in
-    ap (λ (x : Step). x .moved .ring .events) e ∙ keep-row (s .control .ring) i (threadAt (s .control) i) (s .running) (y .ring) (y .thread) (y .image) (y .long) .events
 
 -- an event of any state, by the refusal that the tests of soundness give
 pub event-refused : (s : State) (e : Event) (k : ℕ) → k ≡ unsound s → k ≢ 0 → refused s k ≡ event s e

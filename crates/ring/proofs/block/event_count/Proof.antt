@@ -1,6 +1,5 @@
 use native.Mathlib.Omega.{arith}
 use Rattle.rules.specs.Block.{eventCount}
-use borrow.Author.Needs.{needs}
 use Rattle.ring.proofs.block.event_count.Statement.{statement}
 use Rattle.ring.proofs.block.event_count.Tie as tie
 

@@ -1,6 +1,5 @@
 use borrow.Author.Tests.{ne-eqb}
 use Rattle.ring.specs.OneThread.{lineOf}
-use borrow.Author.Needs.{needs}
 use Rattle.ring.proofs.block.line_of.Statement.{statement}
 use Rattle.ring.proofs.block.line_of.Tie as tie
 

@@ -1,18 +1,15 @@
 use Rattle.rules.specs.Record.{threadAt}
 use mathlib.Core.Path.{_≡_, refl, ap, sym, _∙_}
-use lib.ListN.{length, length-map, length-set}
+use lib.ListN.{length}
 use Rattle.ring.proofs.OneThread.{needs-of}
 use Rattle.ring.proofs.Blocks.{near, fit-line, At, at-by, moved-at, written-at, whole-at}
-use Prim.Native.Nat.{ℕ, _≤_, _-_}
+use Prim.Native.Nat.{ℕ, _-_}
 use mathlib.Core.Path.{_≡_, refl, ap, _∙_}
 use mathlib.Core.Logic.{⊎-elim}
-use native.Mathlib.Numerals.{add-one}
 use native.Mathlib.Omega.{arith}
 use lib.ListN.{length}
-use Rattle.rules.specs.Facts.{Sound}
-use Rattle.rules.specs.State.{state, out}
-use Rattle.rules.specs.Block.{kindAt, placeAt, itemAt, upto, runTo}
-use Rattle.ring.proofs.Blocks.{thread-runs, back-runs, next}
+use Rattle.rules.specs.State.{state}
+use Rattle.rules.specs.Block.{kindAt, placeAt, runTo}
 use borrow.Author.Needs.{needs}
 use Rattle.ring.proofs.block.run_to.Statement.{statement}
 use Rattle.ring.proofs.block.run_to.Tie as tie

@@ -1,5 +1,4 @@
-use mathlib.Core.Path.{refl, _≡_, ap, sym, _∙_}
-use borrow.Author.Tests.{eq-eqb, ne-eqb, le-leb, lt-leb, lt-ltb, le-ltb, not-true, not-false}
+use borrow.Author.Tests.{eq-eqb, ne-eqb, not-true, not-false}
 use borrow.Author.Needs.{needs}
 use Rattle.ring.proofs.refusals.of_back.Statement.{statement}
 use Rattle.ring.proofs.refusals.of_back.Tie as tie
