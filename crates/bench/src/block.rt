@@ -7,7 +7,7 @@ use crate::read;
 use crate::read::Command;
 
 // How many bytes the carry holds after a line's part, and the place where the part ended.
-#[derive(Drop)]
+#[derive(Clone, Copy)]
 pub struct Scan {
     pub len: usize,
     pub next: usize,

@@ -8,7 +8,7 @@ use crate::{Phase, block};
 use rules::{Event, Line};
 
 // A line's command as a block of events holds it.
-#[derive(Drop)]
+#[derive(Clone, Copy)]
 pub struct Three {
     pub kind: u32,
     pub place: u32,
@@ -16,7 +16,7 @@ pub struct Three {
 }
 
 // What gathering leaves beside the carry and the events: how many bytes the carry holds, the next place, and how many lines were gathered.
-#[derive(Drop)]
+#[derive(Clone, Copy)]
 pub struct Gathered {
     pub len: usize,
     pub next: usize,

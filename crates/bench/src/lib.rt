@@ -1,4 +1,6 @@
 // ringrun's text: a line read, blocks of text run over the ring, answers printed. Public entries, which take anything.
+#![tactic(auto)]
+
 mod block;
 mod gather;
 mod print;
@@ -13,7 +15,7 @@ ghost use Rattle.bench.specs.Block.{poured, line_room, pour, finished};
 use rules::Control;
 
 // Before the first line, running, or ended by a refused first line.
-#[derive(Drop)]
+#[derive(Clone, Copy)]
 pub enum Phase {
     First,
     Running,
@@ -21,7 +23,7 @@ pub enum Phase {
 }
 
 // How far the input has come, beside the images: the phase, the lines read, the control record.
-#[derive(Drop)]
+#[derive(Clone, Copy)]
 pub struct Bench {
     pub phase: Phase,
     pub lines: u64,
@@ -29,7 +31,7 @@ pub struct Bench {
 }
 
 // What a block leaves beside the carry, the images and the buffer: the bench, how many bytes the carry holds, the next place in the block and in the buffer.
-#[derive(Drop)]
+#[derive(Clone, Copy)]
 pub struct Fed {
     pub bench: Bench,
     pub len: usize,
@@ -38,7 +40,7 @@ pub struct Fed {
 }
 
 // What the end of the input leaves beside the images and the buffer: the bench, and the place after the last line.
-#[derive(Drop)]
+#[derive(Clone, Copy)]
 pub struct Finished {
     pub bench: Bench,
     pub at: usize,

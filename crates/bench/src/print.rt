@@ -6,7 +6,7 @@ ghost use Rattle.bench.specs.Print.{Wrote, head_text, counted_text, said_of, sai
 use rules::{Answer, Found};
 
 // What is printed of an answer: nothing, a refusal with its number, or one of the five with its thread and item, or what a cut found.
-#[derive(Drop)]
+#[derive(Clone, Copy)]
 pub enum Said {
     Nothing,
     Refused(u32),

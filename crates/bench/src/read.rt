@@ -4,7 +4,7 @@ ghost use Rattle.bench.specs.Read.{digit_of, number_from, number, after_space, n
 
 use rules::{Event, Line};
 
-#[derive(Drop)]
+#[derive(Clone, Copy)]
 pub enum Command {
     Ring(u32, u32, u32),
     Event(Event),
@@ -12,14 +12,14 @@ pub enum Command {
 }
 
 // A number that stands in a line, and the place after it.
-#[derive(Drop)]
+#[derive(Clone, Copy)]
 pub enum Number {
     At(u32, usize),
     Not,
 }
 
 // The words that a line may begin with.
-#[derive(Drop)]
+#[derive(Clone, Copy)]
 pub enum Word {
     Ring,
     Put,
@@ -33,7 +33,7 @@ pub enum Word {
 }
 
 // The numbers after a word: how many, at most three, and which. A count of 4 means that the line is no word with numbers.
-#[derive(Drop)]
+#[derive(Clone, Copy)]
 pub struct Numbers {
     pub count: u32,
     pub first: u32,

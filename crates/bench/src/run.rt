@@ -13,7 +13,7 @@ use crate::{Bench, Phase, block, print};
 use rules::{Control, Event, Outcome};
 
 // What a line leaves beside the images and the buffer: the bench, and the place after what it printed.
-#[derive(Drop)]
+#[derive(Clone, Copy)]
 pub struct Ran {
     pub bench: Bench,
     pub at: usize,

@@ -10,7 +10,7 @@ use crate::{Bench, gather, print, run};
 use rules::Found;
 
 // What answers leave beside the buffer: the event count, the last line's number, and the place after what they printed.
-#[derive(Drop)]
+#[derive(Clone, Copy)]
 pub struct Printed {
     pub count: u32,
     pub line: u64,
@@ -18,7 +18,7 @@ pub struct Printed {
 }
 
 // What gathered lines leave beside the carry, the images and the buffer: what a block leaves, and how many lines may still be run.
-#[derive(Drop)]
+#[derive(Clone, Copy)]
 pub struct Batch {
     pub bench: Bench,
     pub len: usize,

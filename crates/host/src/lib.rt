@@ -1,4 +1,6 @@
 // Recovery for the instrument's C program: document 01, "Listing, reading, host". The kept image is four bytes a number, low byte first.
+#![tactic(auto)]
+
 mod bytes;
 
 ghost use Rattle.std.specs.Prelude.{◌≡◌, ◌/◌, min, length};

@@ -1,4 +1,6 @@
 // The machine: public entries, which take anything.
+#![tactic(auto)]
+
 mod block;
 mod choose;
 mod events;
@@ -26,7 +28,7 @@ ghost use Rattle.rules.specs.Block.{event_count, upto, run_block};
 use rules::{Answer, Control, Event, Line, Outcome};
 
 // What setup hands back: the record, and 0 or the refusal.
-#[derive(Drop)]
+#[derive(Clone, Copy)]
 pub struct Started {
     pub control: Control,
     pub refusal: u32,
@@ -139,7 +141,7 @@ pub fn cut(control: Control, running: &mut [u32], kept: &mut [u32]) -> Outcome
 }
 
 // What a block hands back: the record, and how many events were run.
-#[derive(Drop)]
+#[derive(Clone, Copy)]
 pub struct Ran {
     pub control: Control,
     pub count: usize,
@@ -180,7 +182,7 @@ pub fn recover(cells: u32, threads: u32, tries: u32, events: u32, kept: &mut [u3
 }
 
 // What the listing hands back: 0 or the refusal, and the count.
-#[derive(Drop)]
+#[derive(Clone, Copy)]
 pub struct Listed {
     pub refusal: u32,
     pub count: u32,

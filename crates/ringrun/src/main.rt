@@ -4,7 +4,7 @@ ghost use Rattle.std.specs.Prelude.{◌≤◌, length};
 use bench::{Bench, Phase};
 
 // How far the input has come: the bench, the bytes that the carry holds, and whether input was left.
-#[derive(Drop)]
+#[derive(Clone, Copy)]
 struct Poured {
     bench: Bench,
     len: usize,

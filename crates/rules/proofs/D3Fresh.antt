@@ -30,7 +30,7 @@ module _ (R n : ℕ) (m : List ℕ) (long : size R n ≤ length m) where
 
   length_copied : length copied ≡ length m
   unfolding copied made
-  length_copied = length-copies_to R 0 made n ∙ length-cells_to R _ m R
+  length_copied = length-copies_to R 0 made n ∙ length-cells_to R (λ j c. cell 1 j 0 0) m R
 
   pub length_fresh : length (fresh_image R n m) ≡ length m
   unfolding fresh_image copied made

@@ -1,10 +1,12 @@
 // The types of document 01, and the control record's own methods.
+#![tactic(auto)]
+
 ghost use Rattle.std.specs.Prelude.{◌≡◌};
 ghost use Rattle.rules.specs.Record.{idle, fresh_control, with_thread, thread_at, counted_at, drawn_at};
 ghost use Rattle.rules.specs.Line.{line_kind, line_place};
 
 // A line of memory, as a thread awaits it and as a write-back carries it.
-#[derive(Drop)]
+#[derive(Clone, Copy)]
 pub enum Line {
     None,
     Cell(u32),
@@ -12,7 +14,7 @@ pub enum Line {
     Tail,
 }
 
-#[derive(Drop)]
+#[derive(Clone, Copy)]
 pub struct Cell {
     pub safe: u32,
     pub index: u32,
@@ -20,7 +22,7 @@ pub struct Cell {
     pub mark: u32,
 }
 
-#[derive(Drop)]
+#[derive(Clone, Copy)]
 pub struct Thread {
     pub place: u32,
     pub item: u32,
@@ -31,7 +33,7 @@ pub struct Thread {
 }
 
 // The numbers of a ring: R, n, S, the event count and Head.
-#[derive(Drop)]
+#[derive(Clone, Copy)]
 pub struct Ring {
     pub cells: u32,
     pub threads: u32,
@@ -41,13 +43,13 @@ pub struct Ring {
 }
 
 // The control record.
-#[derive(Drop)]
+#[derive(Clone, Copy)]
 pub struct Control {
     pub ring: Ring,
     pub thread: [Thread; 8],
 }
 
-#[derive(Drop)]
+#[derive(Clone, Copy)]
 pub enum Event {
     Put(u32, u32),
     Take(u32),
@@ -57,14 +59,14 @@ pub enum Event {
 }
 
 // Whose answer it is: the thread, and its number.
-#[derive(Drop)]
+#[derive(Clone, Copy)]
 pub struct By {
     pub thread: u32,
     pub number: u32,
 }
 
 // What a cut found and left.
-#[derive(Drop)]
+#[derive(Clone, Copy)]
 pub struct Found {
     pub mark: u32,
     pub head: u32,
@@ -73,7 +75,7 @@ pub struct Found {
     pub count: u32,
 }
 
-#[derive(Drop)]
+#[derive(Clone, Copy)]
 pub enum Answer {
     Refused(u32),
     Begun(u32),
@@ -100,14 +102,14 @@ pub enum Answer {
 }
 
 // What an event leaves beside the images.
-#[derive(Drop)]
+#[derive(Clone, Copy)]
 pub struct Outcome {
     pub control: Control,
     pub answer: Answer,
 }
 
 // What a row of the step table leaves beside the running image.
-#[derive(Drop)]
+#[derive(Clone, Copy)]
 pub struct Moved {
     pub ring: Ring,
     pub thread: Thread,
@@ -163,6 +165,7 @@ impl Thread {
 
 impl Ring {
     // One event more. At the run limit the numbers stay as they are.
+    #[tactic(auto, unfolding(crate::specs::Record::counted_at))]
     pub fn count(mut self) -> Ring
         ensures { result ≡ counted_at self }
     {
@@ -174,6 +177,7 @@ impl Ring {
     }
 
     // Head drawn: it is one more. At the run limit the numbers stay as they are.
+    #[tactic(auto, unfolding(crate::specs::Record::drawn_at))]
     pub fn draw(mut self) -> Ring
         ensures { result ≡ drawn_at self }
     {
@@ -212,6 +216,7 @@ impl Control {
     }
 
     // Thread i's record, an idle one where there is none.
+    #[tactic(auto, unfolding(crate::specs::Record::thread_at))]
     pub fn thread_at(self, i: u32) -> Thread
         ensures { result ≡ thread_at self i }
     {
@@ -223,6 +228,7 @@ impl Control {
     }
 
     // Thread i's record is t, where there is a thread i.
+    #[tactic(auto, unfolding(crate::specs::Record::with_thread))]
     pub fn with_thread(mut self, i: u32, t: Thread) -> Control
         ensures { result ≡ with_thread self i t }
     {

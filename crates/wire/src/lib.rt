@@ -1,4 +1,6 @@
 // Events and answers as numbers, as a block of events holds them.
+#![tactic(auto)]
+
 ghost use Rattle.std.specs.Prelude.{◌≡◌};
 ghost use Rattle.rules.specs.Block.{is_kind, event_of, six};
 ghost use Rattle.wire.specs.Six.{list, six_of};
@@ -6,7 +8,7 @@ ghost use Rattle.wire.specs.Six.{list, six_of};
 use rules::{Answer, By, Event, Line};
 
 // An answer in six numbers: its own, its values, and zeros.
-#[derive(Drop)]
+#[derive(Clone, Copy)]
 pub struct Six {
     pub number: u32,
     pub first: u32,
