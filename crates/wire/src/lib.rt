@@ -19,6 +19,7 @@ pub struct Six {
 }
 
 // Whether it is the kind of an event.
+
 pub fn is_kind(kind: u32) -> bool
     ensures { result ≡ is_kind kind }
 {
@@ -26,6 +27,7 @@ pub fn is_kind(kind: u32) -> bool
 }
 
 // The event of a kind, a thread or line and an item.
+#[tactic(auto, unfolding(rules::specs::Block::event_of))]
 pub fn event_of(kind: u32, place: u32, item: u32) -> Event
     ensures { result ≡ event_of kind place item }
 {
@@ -69,6 +71,7 @@ fn with_by(number: u32, b: By, v: u32, w: u32) -> Six
 }
 
 // An answer in six numbers.
+#[tactic(auto, unfolding(crate::specs::Six::list, rules::specs::Block::six, rules::specs::Answers::numbers))]
 pub fn numbers(a: Answer) -> Six
     ensures { list result ≡ six a }
 {
