@@ -15,8 +15,8 @@ pub struct Scan {
 
 // A byte of a line goes to the carry, if that is not full.
 fn keep(carry: &mut [u8; 41], len: usize, b: u8) -> usize
-    ensures value { result ≡ keep_len len }
-    ensures carry_after { carry.new ≡ keep_carry carry.old len b }
+    ensures len { result ≡ keep_len len }
+    ensures carry { carry.new ≡ keep_carry carry.old len b }
 {
     if len < 41 {
         carry[len] = b;
@@ -27,8 +27,8 @@ fn keep(carry: &mut [u8; 41], len: usize, b: u8) -> usize
 
 // The block's bytes from a place on go to the carry, up to a newline or the block's end.
 pub fn scan_line(block: &[u8], from: usize, carry: &mut [u8; 41], len: usize) -> Scan
-    ensures block_value { record { carry = carry.exit.now; len = result.len; next = result.next; rest = drop result.next block.now } ≡ scan_of carry.entry.now len from (drop from block.now) }
-    ensures from_le_next { (from ≤ result.next) × (result.next < length block.now → get_or block.now result.next 0 ≡ 10) }
+    ensures scan { record { carry = carry.new; len = result.len; next = result.next; rest = drop result.next block.now } ≡ scan_of carry.old len from (drop from block.now) }
+    ensures stops { (from ≤ result.next) × (result.next < length block.now → get_or block.now result.next 0 ≡ 10) }
 {
     let mut n = len;
     let mut i = from;

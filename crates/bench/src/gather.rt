@@ -78,8 +78,8 @@ fn set_three(events: &mut [u32], at: usize, t: Three)
 
 // How many lines may be gathered, of those that are left.
 pub fn most_of(phase: Phase, left: usize) -> usize
-    ensures value { result ≡ most_of phase left }
-    ensures upper_bound { (result ≤ left) × (result ≤ 256) }
+    ensures most { result ≡ most_of phase left }
+    ensures small { (result ≤ left) × (result ≤ 256) }
 {
     match phase {
         Phase::First => 0,
@@ -98,7 +98,7 @@ pub fn gather(
     events: &mut [u32],
 ) -> Gathered
     requires { 3 * most ≤ length events.old }
-    ensures count_le_most { (result.count ≤ most) × (from ≤ result.next) }
+    ensures within { (result.count ≤ most) × (from ≤ result.next) }
     ensures gathers { Gathers carry.old len from block.now most events.new carry.new result.len result.next result.count }
 {
     let mut n = len;

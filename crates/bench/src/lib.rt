@@ -72,8 +72,8 @@ pub fn feed(
     out: &mut [u8],
     at: usize,
 ) -> Fed
-    ensures at_after { poured (run_with result.bench running.new kept.new) carry.new result.len result.next out.new result.at ≡ pour (line_room out.old at) (run_with bench running.old kept.old) carry.old len from (drop from block.now) out.old at }
-    ensures at_in_bounds { (at ≤ length out.old → result.at ≤ length out.new) × (from < length block.now → at + 2048 ≤ length out.old → from < result.next) }
+    ensures outcome { poured (run_with result.bench running.new kept.new) carry.new result.len result.next out.new result.at ≡ pour (line_room out.old at) (run_with bench running.old kept.old) carry.old len from (drop from block.now) out.old at }
+    ensures room { (at ≤ length out.old → result.at ≤ length out.new) × (from < length block.now → at + 2048 ≤ length out.old → from < result.next) }
 {
     let mut b = bench;
     let mut n = len;
@@ -129,8 +129,8 @@ pub fn finish(
     out: &mut [u8],
     at: usize,
 ) -> Finished
-    ensures at_after { record { run = run_with result.bench running.new kept.new; out = out.new; at = result.at } ≡ finished (run_with bench running.old kept.old) carry.now len out.old at }
-    ensures at_in_bounds { at ≤ length out.old → result.at ≤ length out.new }
+    ensures outcome { record { run = run_with result.bench running.new kept.new; out = out.new; at = result.at } ≡ finished (run_with bench running.old kept.old) carry.now len out.old at }
+    ensures room { at ≤ length out.old → result.at ≤ length out.new }
 {
     if !block::has_room(out, at, 4096) {
         return Finished { bench, at };

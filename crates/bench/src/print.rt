@@ -66,7 +66,7 @@ fn put_byte(b: u8, out: &mut [u8], at: usize) -> usize
 fn put_digits(f: usize, n: u64, out: &mut [u8], at: usize) -> usize
     requires { at + f ≤ length out.old }
     ensures wrote { Wrote out.old at (decimal_in f n) out.new result }
-    ensures upper_bound { result ≤ at + f }
+    ensures room { result ≤ at + f }
 {
     if f == 0 {
         return at;
@@ -84,7 +84,7 @@ fn put_digits(f: usize, n: u64, out: &mut [u8], at: usize) -> usize
 fn put_decimal(n: u64, out: &mut [u8], at: usize) -> usize
     requires { at + 20 ≤ length out.old }
     ensures wrote { Wrote out.old at (decimal n) out.new result }
-    ensures upper_bound { result ≤ at + 20 }
+    ensures room { result ≤ at + 20 }
 {
     put_digits(20, n, out, at)
 }
@@ -93,7 +93,7 @@ fn put_decimal(n: u64, out: &mut [u8], at: usize) -> usize
 fn put_number(n: u64, out: &mut [u8], at: usize) -> usize
     requires { at + 21 ≤ length out.old }
     ensures wrote { Wrote out.old at (spaced (n ∷ [])) out.new result }
-    ensures upper_bound { result ≤ at + 21 }
+    ensures room { result ≤ at + 21 }
 {
     let p = put_byte(32, out, at);
     put_decimal(n, out, p)
@@ -103,7 +103,7 @@ fn put_number(n: u64, out: &mut [u8], at: usize) -> usize
 fn put_numbers(ns: &[u32], out: &mut [u8], at: usize) -> usize
     requires { (length ns.now ≤ 64) × (at + 21 * length ns.now ≤ length out.old) }
     ensures wrote { Wrote out.old at (spaced ns.now) out.new result }
-    ensures upper_bound { result ≤ at + 21 * length ns.now }
+    ensures room { result ≤ at + 21 * length ns.now }
 {
     let mut p = at;
     let mut i = 0;
@@ -131,7 +131,7 @@ fn put_word(k: &[u8], out: &mut [u8], at: usize) -> usize
 fn put_head(e: u32, k: &[u8], ns: &[u32], out: &mut [u8], at: usize) -> usize
     requires { (length k.now ≤ 8) × (length ns.now ≤ 8) × (at + 256 ≤ length out.old) }
     ensures wrote { Wrote out.old at (head_text e k.now ns.now) out.new result }
-    ensures upper_bound { result ≤ at + 197 }
+    ensures room { result ≤ at + 197 }
 {
     let p = put_decimal(wide(e), out, at);
     let q = put_byte(32, out, p);
@@ -143,7 +143,7 @@ fn put_head(e: u32, k: &[u8], ns: &[u32], out: &mut [u8], at: usize) -> usize
 fn put_counted(e: u32, k: &[u8], ns: &[u32], out: &mut [u8], at: usize) -> usize
     requires { (length k.now ≤ 8) × (length ns.now ≤ 8) × (at + 256 ≤ length out.old) }
     ensures wrote { Wrote out.old at (counted_text e k.now ns.now) out.new result }
-    ensures upper_bound { result ≤ at + 198 }
+    ensures room { result ≤ at + 198 }
 {
     let p = put_head(e, k, ns, out, at);
     put_byte(10, out, p)
@@ -153,7 +153,7 @@ fn put_counted(e: u32, k: &[u8], ns: &[u32], out: &mut [u8], at: usize) -> usize
 fn put_cut(e: u32, f: Found, items: &[u32], out: &mut [u8], at: usize) -> usize
     requires { (length items.now ≤ 64) × (at + 2048 ≤ length out.old) }
     ensures wrote { Wrote out.old at (said_text e 0 items.now (Said.Cut f)) out.new result }
-    ensures upper_bound { result ≤ at + 1542 }
+    ensures room { result ≤ at + 1542 }
 {
     let ns = [f.mark, f.head, f.tail, f.closed, f.count];
     let p = put_head(e, b"cut", &ns, out, at);
@@ -165,7 +165,7 @@ fn put_cut(e: u32, f: Found, items: &[u32], out: &mut [u8], at: usize) -> usize
 pub fn put_refused(l: u64, k: u32, out: &mut [u8], at: usize) -> usize
     requires { at + 256 ≤ length out.old }
     ensures wrote { Wrote out.old at (said_text 0 l [] (Said.Refused k)) out.new result }
-    ensures upper_bound { result ≤ at + 256 }
+    ensures room { result ≤ at + 256 }
 {
     let p = put_word(b"refused", out, at);
     let q = put_number(l, out, p);
@@ -177,7 +177,7 @@ pub fn put_refused(l: u64, k: u32, out: &mut [u8], at: usize) -> usize
 pub fn put_end(e: u32, out: &mut [u8], at: usize) -> usize
     requires { at + 256 ≤ length out.old }
     ensures wrote { Wrote out.old at (end_text e) out.new result }
-    ensures upper_bound { result ≤ at + 256 }
+    ensures room { result ≤ at + 256 }
 {
     let p = put_word(b"end", out, at);
     let q = put_number(wide(e), out, p);
@@ -188,7 +188,7 @@ pub fn put_end(e: u32, out: &mut [u8], at: usize) -> usize
 pub fn put_said(e: u32, l: u64, s: Said, items: &[u32], out: &mut [u8], at: usize) -> usize
     requires { (length items.now ≤ 64) × (at + 2048 ≤ length out.old) }
     ensures wrote { Wrote out.old at (said_text e l items.now s) out.new result }
-    ensures upper_bound { result ≤ at + 2048 }
+    ensures room { result ≤ at + 2048 }
 {
     match s {
         Said::Nothing => at,

@@ -32,9 +32,9 @@ pub fn next_line(l: u64) -> u64
 // A first line that is no ring.
 fn no_ring(l: u64, control: Control, out: &mut [u8], at: usize) -> Ran
     requires { at + 2048 ≤ length out.old }
-    ensures bench_value { result.bench ≡ bench_of Phase.Ended l control }
+    ensures bench { result.bench ≡ bench_of Phase.Ended l control }
     ensures wrote { Wrote out.old at (refused_text l 9) out.new result.at }
-    ensures at_bound { result.at ≤ at + 2048 }
+    ensures room { result.at ≤ at + 2048 }
 {
     let p = print::put_refused(l, 9, out, at);
     Ran {
@@ -110,7 +110,7 @@ fn first_line(
 // The items that a cut would queue, in front of the room, and how many.
 fn list_items(control: Control, kept: &[u32], room: &mut [u32]) -> usize
     requires { length room.old ≡ 64 }
-    ensures upper_bound { result ≤ 64 }
+    ensures few { result ≤ 64 }
     ensures lists { Lists control kept.now Event.Cut room.new result }
 {
     let g = control.ring;
@@ -120,7 +120,7 @@ fn list_items(control: Control, kept: &[u32], room: &mut [u32]) -> usize
 
 // The items that the event queues if it is a cut, in front of the room, and how many.
 fn list_for(e: Event, control: Control, kept: &[u32], room: &mut [u32; 64]) -> usize
-    ensures upper_bound { result ≤ 64 }
+    ensures few { result ≤ 64 }
     ensures lists { Lists control kept.now e room.new result }
 {
     match e {
@@ -136,7 +136,7 @@ fn list_for(e: Event, control: Control, kept: &[u32], room: &mut [u32; 64]) -> u
 fn print_items(e: u32, l: u64, s: Said, room: &[u32], n: usize, out: &mut [u8], at: usize) -> usize
     requires { (n ≤ 64) × (n ≤ length room.now) × (at + 2048 ≤ length out.old) }
     ensures wrote { Wrote out.old at (said_text e l (take n room.now) s) out.new result }
-    ensures upper_bound { result ≤ at + 2048 }
+    ensures room { result ≤ at + 2048 }
 {
     print::put_said(e, l, s, &room[..n], out, at)
 }
@@ -145,7 +145,7 @@ fn print_items(e: u32, l: u64, s: Said, room: &[u32], n: usize, out: &mut [u8], 
 fn print_answer(l: u64, o: Outcome, room: &[u32; 64], n: usize, out: &mut [u8], at: usize) -> usize
     requires { (n ≤ 64) × (at + 2048 ≤ length out.old) }
     ensures wrote { Wrote out.old at (said_text o.control.ring.events l (take n room.now) (said_of o.answer)) out.new result }
-    ensures upper_bound { result ≤ at + 2048 }
+    ensures room { result ≤ at + 2048 }
 {
     let e = o.control.ring.events;
     let answer = o.answer;
@@ -183,9 +183,9 @@ fn event_line(
 // A line that is not understood.
 fn refused_line(l: u64, control: Control, out: &mut [u8], at: usize) -> Ran
     requires { at + 2048 ≤ length out.old }
-    ensures bench_value { result.bench ≡ bench_of Phase.Running l control }
+    ensures bench { result.bench ≡ bench_of Phase.Running l control }
     ensures wrote { Wrote out.old at (refused_text l 9) out.new result.at }
-    ensures at_bound { result.at ≤ at + 2048 }
+    ensures room { result.at ≤ at + 2048 }
 {
     let p = print::put_refused(l, 9, out, at);
     Ran {

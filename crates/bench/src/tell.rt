@@ -150,8 +150,8 @@ pub fn run_lines(
     at: usize,
 ) -> Batch
     requires { 1 ≤ left → at + 2048 * left ≤ length out.old }
-    ensures at_value { pour left (run_with b running.old kept.old) carry.old len from (drop from block.now) out.old at ≡ pour result.left (run_with result.bench running.new kept.new) carry.new result.len result.next (drop result.next block.now) out.new result.at }
-    ensures from_le_next { (from ≤ result.next) × (at ≤ result.at) × (result.at + 2048 * result.left ≤ at + 2048 * left) }
+    ensures same { pour left (run_with b running.old kept.old) carry.old len from (drop from block.now) out.old at ≡ pour result.left (run_with result.bench running.new kept.new) carry.new result.len result.next (drop result.next block.now) out.new result.at }
+    ensures room { (from ≤ result.next) × (at ≤ result.at) × (result.at + 2048 * result.left ≤ at + 2048 * left) }
 {
     let mut events = [0u32; 768];
     let mut room = [0u32; 1536];

@@ -29,8 +29,8 @@ fn recover_by(
     image: &mut [u32],
 ) -> u32
     requires { length image.old ≡ min (length kept.old / 4) 266 }
-    ensures value { result ≡ host_refusal cells threads tries events kept.old }
-    ensures kept_after { kept.new ≡ host_bytes cells threads tries events kept.old }
+    ensures refusal { result ≡ host_refusal cells threads tries events kept.old }
+    ensures kept { kept.new ≡ host_bytes cells threads tries events kept.old }
 {
     bytes::read_numbers(kept, image);
     let refusal = ring::recover(cells, threads, tries, events, image);
@@ -52,8 +52,8 @@ fn recover_in(
     room: &mut [u32],
 ) -> u32
     requires { length room.old ≡ 266 }
-    ensures value { result ≡ host_refusal cells threads tries events kept.old }
-    ensures kept_after { kept.new ≡ host_bytes cells threads tries events kept.old }
+    ensures refusal { result ≡ host_refusal cells threads tries events kept.old }
+    ensures kept { kept.new ≡ host_bytes cells threads tries events kept.old }
 {
     let count = smaller(kept.len() / 4, MOST);
     recover_by(cells, threads, tries, events, kept, &mut room[..count])
@@ -68,8 +68,8 @@ pub extern "C" fn winterbeam_recover(
     events: u32,
     kept: &mut [u8],
 ) -> u32
-    ensures value { result ≡ host_refusal cells threads tries events kept.old }
-    ensures kept_after { kept.new ≡ host_bytes cells threads tries events kept.old }
+    ensures refusal { result ≡ host_refusal cells threads tries events kept.old }
+    ensures kept { kept.new ≡ host_bytes cells threads tries events kept.old }
 {
     let mut room = [0u32; MOST];
     recover_in(cells, threads, tries, events, kept, &mut room)

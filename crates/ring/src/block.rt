@@ -13,6 +13,7 @@ use rules::{Answer, Control, Line, Outcome, Ring};
 use wire::Six;
 
 // As many events as stand whole in the block and have room for their answers.
+#[tactic(auto, unfolding(rules::specs::Block::event_count))]
 pub fn event_count(block: &[u32], room: &[u32]) -> usize
     ensures { result ≡ event_count block.now room.now }
 {
@@ -22,6 +23,7 @@ pub fn event_count(block: &[u32], room: &[u32]) -> usize
 }
 
 // Six numbers into the room.
+#[tactic(auto, unfolding(wire::specs::Six::list))]
 fn set_six(room: &mut [u32], at: usize, s: Six)
     requires { at + 6 ≤ length room.old }
     ensures { room.new ≡ sets room.old at (list s) }
@@ -43,6 +45,7 @@ fn tell(room: &mut [u32], j: usize, a: Answer)
 }
 
 // The first n events of a state that is not sound, each refused.
+#[tactic(auto, unfolding(rules::specs::Block::event_runs))]
 pub fn refuse_to(k: u32, block: &[u32], room: &mut [u32], n: usize)
     requires { (k ≢ 0) × (3 * n ≤ length block.now) × (6 * n ≤ length room.old) }
     ensures { (s : State) → k ≡ unsound s → upto s room.new ≡ run_to s block.now room.old n }
@@ -62,6 +65,7 @@ fn moves(kind: u32, i: u32, threads: u32) -> bool
 }
 
 // The line of a write-back.
+#[tactic(auto, unfolding(crate::specs::OneThread::line_of))]
 fn line_of(kind: u32, place: u32) -> Line
     ensures { result ≡ line_of kind place }
 {
@@ -83,6 +87,7 @@ fn writes(kind: u32, g: Ring, line: Line) -> bool
 }
 
 // Three numbers as an event of the whole record; where they are none, that is refused.
+#[tactic(auto, unfolding(rules::specs::Block::runs))]
 fn run_one(
     c: Control,
     running: &mut [u32],
@@ -105,6 +110,7 @@ fn run_one(
 }
 
 // The first n events of a sound state. The record is not moved for an event of one thread, nor for a write-back.
+#[tactic(auto, unfolding(rules::specs::Record::thread_at))]
 pub fn run_to(
     c: Control,
     running: &mut [u32],

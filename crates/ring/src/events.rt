@@ -26,6 +26,7 @@ fn count(c: Control) -> Control
 }
 
 // The record with what an event left of its thread i.
+#[tactic(auto, unfolding(rules::specs::Record::with_thread))]
 fn placed(c: Control, i: u32, m: Moved) -> Outcome
     ensures { result ≡ record { control = placed c i m; answer = m.answer } }
 {
@@ -68,6 +69,7 @@ pub fn go(c: Control, running: &mut [u32], kept: &[u32], i: u32) -> Outcome
 }
 
 // The line carries cell i.
+#[tactic(auto, unfolding(rules::specs::Line::carries_cell))]
 fn carries_cell(line: Line, i: u32) -> bool
     ensures { result ≡ carries_cell line i }
 {
@@ -80,6 +82,7 @@ fn carries_cell(line: Line, i: u32) -> bool
 }
 
 // The line carries thread i's copy.
+#[tactic(auto, unfolding(rules::specs::Line::carries_copy))]
 fn carries_copy(line: Line, i: u32) -> bool
     ensures { result ≡ carries_copy line i }
 {
@@ -92,6 +95,7 @@ fn carries_copy(line: Line, i: u32) -> bool
 }
 
 // The line carries closed and Tail.
+#[tactic(auto, unfolding(rules::specs::Line::carries_tail))]
 fn carries_tail(line: Line) -> bool
     ensures { result ≡ carries_tail line }
 {
@@ -104,6 +108,7 @@ fn carries_tail(line: Line) -> bool
 }
 
 // Whether the written line ends the wait for an awaited one.
+#[tactic(auto, unfolding(rules::specs::Line::ends))]
 fn ends(line: Line, awaited: Line) -> bool
     ensures { result ≡ ends line awaited }
 {
@@ -116,6 +121,7 @@ fn ends(line: Line, awaited: Line) -> bool
 }
 
 // The thread once the line is written.
+#[tactic(auto, unfolding(rules::specs::Line::released))]
 fn release(line: Line, t: Thread) -> Thread
     ensures { result ≡ released line t }
 {
@@ -139,6 +145,7 @@ fn release_all(line: Line, threads: [Thread; 8]) -> [Thread; 8]
 }
 
 // The line goes from running to kept.
+#[tactic(auto, unfolding(rules::specs::Line::line_exists, rules::specs::Line::carried))]
 fn carry(cells: u32, threads: u32, line: Line, running: &[u32], kept: &mut [u32])
     requires { (cells ≤ max_cells) × (threads ≤ max_threads) × (size cells threads ≤ length running.now) × (size cells threads ≤ length kept.old) × (line_exists cells threads line ≡ true) }
     ensures { kept.new ≡ carried cells threads line running.now kept.old }
@@ -171,14 +178,15 @@ pub fn written(
     kept: &mut [u32],
 ) -> [Thread; 8]
     requires { (g.cells ≤ max_cells) × (g.threads ≤ max_threads) × (size g.cells g.threads ≤ length running.now) × (size g.cells g.threads ≤ length kept.old) × (line_exists g.cells g.threads line ≡ true) }
-    ensures value { result ≡ map (released line) threads }
-    ensures kept_after { kept.new ≡ carried g.cells g.threads line running.now kept.old }
+    ensures threads { result ≡ map (released line) threads }
+    ensures kept { kept.new ≡ carried g.cells g.threads line running.now kept.old }
 {
     carry(g.cells, g.threads, line, running, kept);
     release_all(line, threads)
 }
 
 // Writes a line back.
+#[tactic(auto, unfolding(rules::specs::Refusals::own_refusal, rules::specs::Events::write_back, rules::specs::Events::does))]
 pub fn back(c: Control, running: &[u32], kept: &mut [u32], line: Line) -> Outcome
     requires { Sound (state c running.now kept.old) }
     ensures { out (state result.control running.now kept.new) result.answer ≡ inner (state c running.now kept.old) (Back line) }
@@ -214,6 +222,7 @@ fn after_cut(g: Ring, head: u32) -> Control
 }
 
 // A power cut.
+#[tactic(auto, unfolding(rules::specs::Refusals::own_refusal, rules::specs::Events::cut, rules::specs::Events::does))]
 pub fn cut(c: Control, running: &mut [u32], kept: &mut [u32]) -> Outcome
     requires { Sound (state c running.old kept.old) }
     ensures { out (state result.control running.new kept.new) result.answer ≡ inner (state c running.old kept.old) Cut }

@@ -28,6 +28,7 @@ fn all_cells(cells: u32, m: &mut [u32])
 }
 
 // The whole image is fresh.
+#[tactic(auto, unfolding(rules::specs::Memory::fresh_image))]
 pub fn image(cells: u32, threads: u32, m: &mut [u32])
     requires { (cells ≤ max_cells) × (threads ≤ max_threads) × (size cells threads ≤ length m.old) }
     ensures { m.new ≡ fresh_image cells threads m.old }

@@ -35,9 +35,10 @@ pub struct Started {
 }
 
 // A fresh ring: the control record, and both images made fresh.
+#[tactic(auto, unfolding(rules::specs::Events::setup, rules::specs::Events::fresh_state))]
 pub fn setup(cells: u32, threads: u32, tries: u32, running: &mut [u32], kept: &mut [u32]) -> Started
-    ensures refusal_value { result.refusal ≡ setup_refusal cells threads tries running.old kept.old }
-    ensures kept_after { state result.control running.new kept.new ≡ setup cells threads tries running.old kept.old }
+    ensures refusal { result.refusal ≡ setup_refusal cells threads tries running.old kept.old }
+    ensures left { state result.control running.new kept.new ≡ setup cells threads tries running.old kept.old }
 {
     let refusal = refusals::of_setup(cells, threads, tries, running, kept);
     if refusal != 0 {
@@ -52,8 +53,8 @@ pub fn setup(cells: u32, threads: u32, tries: u32, running: &mut [u32], kept: &m
 
 // Any event.
 pub fn event(control: Control, running: &mut [u32], kept: &mut [u32], e: Event) -> Outcome
-    ensures answer_after { out (state result.control running.new kept.new) result.answer ≡ event (state control running.old kept.old) e }
-    ensures answer_value { numbers result.answer ≡ numbers (event (state control running.old kept.old) e).answer }
+    ensures outcome { out (state result.control running.new kept.new) result.answer ≡ event (state control running.old kept.old) e }
+    ensures answer_numbers { numbers result.answer ≡ numbers (event (state control running.old kept.old) e).answer }
 {
     let k = refusals::unsound(control, running, kept);
     if k != 0 {
@@ -67,8 +68,8 @@ pub fn event(control: Control, running: &mut [u32], kept: &mut [u32], e: Event) 
 
 // Begin a put.
 pub fn put(control: Control, running: &[u32], kept: &[u32], thread: u32, item: u32) -> Outcome
-    ensures answer_value { out (state result.control running.now kept.now) result.answer ≡ event (state control running.now kept.now) (Event.Put thread item) }
-    ensures answer_value_2 { numbers result.answer ≡ numbers (event (state control running.now kept.now) (Event.Put thread item)).answer }
+    ensures outcome { out (state result.control running.now kept.now) result.answer ≡ event (state control running.now kept.now) (Event.Put thread item) }
+    ensures answer_numbers { numbers result.answer ≡ numbers (event (state control running.now kept.now) (Event.Put thread item)).answer }
 {
     let k = refusals::unsound(control, running, kept);
     if k != 0 {
@@ -82,8 +83,8 @@ pub fn put(control: Control, running: &[u32], kept: &[u32], thread: u32, item: u
 
 // Begin a take.
 pub fn take(control: Control, running: &[u32], kept: &[u32], thread: u32) -> Outcome
-    ensures answer_value { out (state result.control running.now kept.now) result.answer ≡ event (state control running.now kept.now) (Event.Take thread) }
-    ensures answer_value_2 { numbers result.answer ≡ numbers (event (state control running.now kept.now) (Event.Take thread)).answer }
+    ensures outcome { out (state result.control running.now kept.now) result.answer ≡ event (state control running.now kept.now) (Event.Take thread) }
+    ensures answer_numbers { numbers result.answer ≡ numbers (event (state control running.now kept.now) (Event.Take thread)).answer }
 {
     let k = refusals::unsound(control, running, kept);
     if k != 0 {
@@ -97,8 +98,8 @@ pub fn take(control: Control, running: &[u32], kept: &[u32], thread: u32) -> Out
 
 // Step a thread.
 pub fn go(control: Control, running: &mut [u32], kept: &[u32], thread: u32) -> Outcome
-    ensures answer_after { out (state result.control running.new kept.now) result.answer ≡ event (state control running.old kept.now) (Event.Go thread) }
-    ensures answer_value { numbers result.answer ≡ numbers (event (state control running.old kept.now) (Event.Go thread)).answer }
+    ensures outcome { out (state result.control running.new kept.now) result.answer ≡ event (state control running.old kept.now) (Event.Go thread) }
+    ensures answer_numbers { numbers result.answer ≡ numbers (event (state control running.old kept.now) (Event.Go thread)).answer }
 {
     let k = refusals::unsound(control, running, kept);
     if k != 0 {
@@ -112,8 +113,8 @@ pub fn go(control: Control, running: &mut [u32], kept: &[u32], thread: u32) -> O
 
 // Write back a line.
 pub fn back(control: Control, running: &[u32], kept: &mut [u32], line: Line) -> Outcome
-    ensures answer_after { out (state result.control running.now kept.new) result.answer ≡ event (state control running.now kept.old) (Event.Back line) }
-    ensures answer_value { numbers result.answer ≡ numbers (event (state control running.now kept.old) (Event.Back line)).answer }
+    ensures outcome { out (state result.control running.now kept.new) result.answer ≡ event (state control running.now kept.old) (Event.Back line) }
+    ensures answer_numbers { numbers result.answer ≡ numbers (event (state control running.now kept.old) (Event.Back line)).answer }
 {
     let k = refusals::unsound(control, running, kept);
     if k != 0 {
@@ -127,8 +128,8 @@ pub fn back(control: Control, running: &[u32], kept: &mut [u32], line: Line) -> 
 
 // A power cut.
 pub fn cut(control: Control, running: &mut [u32], kept: &mut [u32]) -> Outcome
-    ensures answer_after { out (state result.control running.new kept.new) result.answer ≡ event (state control running.old kept.old) Event.Cut }
-    ensures answer_value { numbers result.answer ≡ numbers (event (state control running.old kept.old) Event.Cut).answer }
+    ensures outcome { out (state result.control running.new kept.new) result.answer ≡ event (state control running.old kept.old) Event.Cut }
+    ensures answer_numbers { numbers result.answer ≡ numbers (event (state control running.old kept.old) Event.Cut).answer }
 {
     let k = refusals::unsound(control, running, kept);
     if k != 0 {
@@ -148,6 +149,7 @@ pub struct Ran {
 }
 
 // A block of events, three numbers each, run one after the other; six numbers of each answer go to the room.
+#[tactic(auto, unfolding(rules::specs::Block::event_count, rules::specs::Block::run_block))]
 pub fn run(
     control: Control,
     running: &mut [u32],
@@ -155,8 +157,8 @@ pub fn run(
     block: &[u32],
     room: &mut [u32],
 ) -> Ran
-    ensures count_value { result.count ≡ event_count block.now room.old }
-    ensures room_after { upto (state result.control running.new kept.new) room.new ≡ run_block (state control running.old kept.old) block.now room.old }
+    ensures count { result.count ≡ event_count block.now room.old }
+    ensures left { upto (state result.control running.new kept.new) room.new ≡ run_block (state control running.old kept.old) block.now room.old }
 {
     let count = block::event_count(block, room);
     let k = refusals::unsound(control, running, kept);
@@ -169,9 +171,10 @@ pub fn run(
 }
 
 // Recovery of a kept image alone: 0, and the image as a cut would leave it, or the refusal.
+#[tactic(auto, unfolding(rules::specs::Listing::host_kept))]
 pub fn recover(cells: u32, threads: u32, tries: u32, events: u32, kept: &mut [u32]) -> u32
-    ensures value { result ≡ kept_refusal cells threads tries events kept.old }
-    ensures kept_after { kept.new ≡ host_kept cells threads tries events kept.old }
+    ensures refusal { result ≡ kept_refusal cells threads tries events kept.old }
+    ensures kept { kept.new ≡ host_kept cells threads tries events kept.old }
 {
     let k = refusals::of_kept(cells, threads, tries, events, kept);
     if k != 0 {
@@ -189,6 +192,7 @@ pub struct Listed {
 }
 
 // The items that a cut now would queue, into the room.
+#[tactic(auto, unfolding(rules::specs::Listing::listed_count, rules::specs::Listing::listed_room, rules::specs::Listing::in_front))]
 pub fn list(
     cells: u32,
     threads: u32,
@@ -197,9 +201,9 @@ pub fn list(
     kept: &[u32],
     room: &mut [u32],
 ) -> Listed
-    ensures refusal_value { result.refusal ≡ listing_refusal cells threads tries events kept.now room.old }
-    ensures count_value { result.count ≡ listed_count cells threads tries events kept.now room.old }
-    ensures room_after { room.new ≡ listed_room cells threads tries events kept.now room.old }
+    ensures refusal { result.refusal ≡ listing_refusal cells threads tries events kept.now room.old }
+    ensures count { result.count ≡ listed_count cells threads tries events kept.now room.old }
+    ensures room { room.new ≡ listed_room cells threads tries events kept.now room.old }
 {
     let refusal = refusals::of_listing(cells, threads, tries, events, kept, room.len());
     if refusal != 0 {

@@ -22,6 +22,7 @@ pub fn size_of(cells: u32, threads: u32) -> usize
 }
 
 // Cell j.
+#[tactic(auto, unfolding(rules::specs::Memory::cell_at))]
 pub fn load(cells: u32, m: &[u32], j: u32) -> Cell
     requires { (j < cells) × (cells ≤ max_cells) × (4 * cells ≤ length m.now) }
     ensures { result ≡ cell_at cells m.now j }
@@ -36,6 +37,7 @@ pub fn load(cells: u32, m: &[u32], j: u32) -> Cell
 }
 
 // Cell j becomes c.
+#[tactic(auto, unfolding(rules::specs::Memory::set_cell))]
 pub fn store(cells: u32, m: &mut [u32], j: u32, c: Cell)
     requires { (j < cells) × (cells ≤ max_cells) × (4 * cells ≤ length m.old) }
     ensures { m.new ≡ set_cell cells m.old j c }
@@ -48,6 +50,7 @@ pub fn store(cells: u32, m: &mut [u32], j: u32, c: Cell)
 }
 
 // Thread t's local copy of Head.
+#[tactic(auto, unfolding(rules::specs::Memory::copy_at))]
 pub fn copy_at(cells: u32, m: &[u32], t: u32) -> u32
     requires { (cells ≤ max_cells) × (t < max_threads) × (4 * cells + t < length m.now) }
     ensures { result ≡ copy_at cells m.now t }
@@ -57,6 +60,7 @@ pub fn copy_at(cells: u32, m: &[u32], t: u32) -> u32
 }
 
 // Thread t's local copy becomes v.
+#[tactic(auto, unfolding(rules::specs::Memory::set_copy))]
 pub fn set_copy(cells: u32, m: &mut [u32], t: u32, v: u32)
     requires { (cells ≤ max_cells) × (t < max_threads) × (4 * cells + t < length m.old) }
     ensures { m.new ≡ set_copy cells m.old t v }
@@ -66,6 +70,7 @@ pub fn set_copy(cells: u32, m: &mut [u32], t: u32, v: u32)
 }
 
 // Closed.
+#[tactic(auto, unfolding(rules::specs::Memory::closed_at))]
 pub fn closed_at(cells: u32, threads: u32, m: &[u32]) -> u32
     requires { (cells ≤ max_cells) × (threads ≤ max_threads) × (size cells threads ≤ length m.now) }
     ensures { result ≡ closed_at cells threads m.now }
@@ -75,6 +80,7 @@ pub fn closed_at(cells: u32, threads: u32, m: &[u32]) -> u32
 }
 
 // Closed becomes v.
+#[tactic(auto, unfolding(rules::specs::Memory::set_closed))]
 pub fn set_closed(cells: u32, threads: u32, m: &mut [u32], v: u32)
     requires { (cells ≤ max_cells) × (threads ≤ max_threads) × (size cells threads ≤ length m.old) }
     ensures { m.new ≡ set_closed cells threads m.old v }
@@ -84,6 +90,7 @@ pub fn set_closed(cells: u32, threads: u32, m: &mut [u32], v: u32)
 }
 
 // Tail.
+#[tactic(auto, unfolding(rules::specs::Memory::tail_at))]
 pub fn tail_at(cells: u32, threads: u32, m: &[u32]) -> u32
     requires { (cells ≤ max_cells) × (threads ≤ max_threads) × (size cells threads ≤ length m.now) }
     ensures { result ≡ tail_at cells threads m.now }
@@ -93,6 +100,7 @@ pub fn tail_at(cells: u32, threads: u32, m: &[u32]) -> u32
 }
 
 // Tail becomes v.
+#[tactic(auto, unfolding(rules::specs::Memory::set_tail))]
 pub fn set_tail(cells: u32, threads: u32, m: &mut [u32], v: u32)
     requires { (cells ≤ max_cells) × (threads ≤ max_threads) × (size cells threads ≤ length m.old) }
     ensures { m.new ≡ set_tail cells threads m.old v }

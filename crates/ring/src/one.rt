@@ -20,6 +20,7 @@ fn refused(g: Ring, t: Thread, k: u32) -> Moved
 }
 
 // Thread i, which is t, begins a put.
+#[tactic(auto, unfolding(crate::specs::OneThread::put_of, crate::specs::OneThread::unless))]
 pub fn put(g: Ring, i: u32, t: Thread, x: u32) -> Moved
     requires { g.events ≤ run_limit }
     ensures { (m : List ℕ) → leaves result m ≡ put_of g i t x m }
@@ -39,6 +40,7 @@ pub fn put(g: Ring, i: u32, t: Thread, x: u32) -> Moved
 }
 
 // Thread i, which is t, begins a take.
+#[tactic(auto, unfolding(crate::specs::OneThread::take_of, crate::specs::OneThread::unless))]
 pub fn take(g: Ring, i: u32, t: Thread) -> Moved
     requires { g.events ≤ run_limit }
     ensures { (m : List ℕ) → leaves result m ≡ take_of g i t m }
@@ -57,6 +59,7 @@ pub fn take(g: Ring, i: u32, t: Thread) -> Moved
 }
 
 // One row of the step table. A busy thread of a sound record has one of the twenty places, so the last arm is never taken.
+#[tactic(auto, unfolding(rules::specs::Table::row))]
 fn row(g: Ring, who: u32, t: Thread, m: &mut [u32]) -> Moved
     requires { Ready g who t m.old × (g.events < run_limit) }
     ensures { leaves result m.new ≡ row g who t m.old }
@@ -74,6 +77,7 @@ fn row(g: Ring, who: u32, t: Thread, m: &mut [u32]) -> Moved
 }
 
 // Thread i, which is t, does a step.
+#[tactic(auto, unfolding(crate::specs::OneThread::go_of, crate::specs::OneThread::unless))]
 pub fn go(g: Ring, i: u32, t: Thread, m: &mut [u32]) -> Moved
     requires { (g.events ≤ run_limit) × (t.place ≢ 0 → Ready g i t m.old) }
     ensures { leaves result m.new ≡ go_of g i t m.old }
@@ -94,6 +98,7 @@ pub fn go(g: Ring, i: u32, t: Thread, m: &mut [u32]) -> Moved
 }
 
 // By its kind: 1 a put, 2 a take, else a step.
+#[tactic(auto, unfolding(crate::specs::OneThread::one_of))]
 pub fn any(kind: u32, g: Ring, i: u32, t: Thread, x: u32, m: &mut [u32]) -> Moved
     requires { (g.events ≤ run_limit) × (t.place ≢ 0 → Ready g i t m.old) }
     ensures { leaves result m.new ≡ one_of kind g i t x m.old }

@@ -7,6 +7,7 @@ use crate::{choose, memory, rows};
 use rules::{Answer, By, Cell, Line, Moved, Ring, Thread};
 
 // P1: draws Tail.
+#[tactic(auto, unfolding(rules::specs::Table::row_p1))]
 fn p1(g: Ring, who: u32, t: Thread, m: &mut [u32]) -> Moved
     requires { Ready g who t m.old }
     ensures { leaves result m.new ≡ row_p1 g who t m.old }
@@ -26,6 +27,7 @@ fn p1(g: Ring, who: u32, t: Thread, m: &mut [u32]) -> Moved
 }
 
 // P2: looks at the cell.
+#[tactic(auto, unfolding(rules::specs::Table::row_p2))]
 fn p2(g: Ring, who: u32, t: Thread, m: &[u32]) -> Moved
     requires { Ready g who t m.now }
     ensures { leaves result m.now ≡ row_p2 g who t m.now }
@@ -48,6 +50,7 @@ fn p2(g: Ring, who: u32, t: Thread, m: &[u32]) -> Moved
 }
 
 // P3: compares Head.
+#[tactic(auto, unfolding(rules::specs::Table::row_p3))]
 fn p3(g: Ring, who: u32, t: Thread) -> Moved
     ensures { (m : List ℕ) → leaves result m ≡ row_p3 g who t m }
 {
@@ -66,6 +69,7 @@ fn p3(g: Ring, who: u32, t: Thread) -> Moved
 }
 
 // P4: lands, if the cell still matches.
+#[tactic(auto, unfolding(rules::specs::Table::row_p4))]
 fn p4(g: Ring, who: u32, t: Thread, m: &mut [u32]) -> Moved
     requires { Ready g who t m.old }
     ensures { leaves result m.new ≡ row_p4 g who t m.old }
@@ -105,6 +109,7 @@ fn p4(g: Ring, who: u32, t: Thread, m: &mut [u32]) -> Moved
 }
 
 // P5: asks for the cell.
+#[tactic(auto, unfolding(rules::specs::Table::row_p5))]
 fn p5(g: Ring, who: u32, t: Thread) -> Moved
     requires { 0 < g.cells }
     ensures { (m : List ℕ) → leaves result m ≡ row_p5 g who t m }
@@ -122,6 +127,7 @@ fn p5(g: Ring, who: u32, t: Thread) -> Moved
 }
 
 // P6: waits, then OK.
+#[tactic(auto, unfolding(rules::specs::Table::row_p6))]
 fn p6(g: Ring, who: u32, t: Thread) -> Moved
     ensures { (m : List ℕ) → leaves result m ≡ row_p6 g who t m }
 {
@@ -133,6 +139,7 @@ fn p6(g: Ring, who: u32, t: Thread) -> Moved
 }
 
 // P7: asks for the Tail line.
+#[tactic(auto, unfolding(rules::specs::Table::row_p7))]
 fn p7(g: Ring, who: u32, t: Thread) -> Moved
     ensures { (m : List ℕ) → leaves result m ≡ row_p7 g who t m }
 {
@@ -182,6 +189,7 @@ fn p8(g: Ring, who: u32, t: Thread) -> Moved
 }
 
 // P9: sets closed.
+#[tactic(auto, unfolding(rules::specs::Table::row_p9))]
 fn p9(g: Ring, who: u32, t: Thread, m: &mut [u32]) -> Moved
     requires { Ready g who t m.old }
     ensures { leaves result m.new ≡ row_p9 g who t m.old }
@@ -199,6 +207,7 @@ fn p9(g: Ring, who: u32, t: Thread, m: &mut [u32]) -> Moved
 }
 
 // P10: waits, then CLOSED.
+#[tactic(auto, unfolding(rules::specs::Table::row_p10))]
 fn p10(g: Ring, who: u32, t: Thread) -> Moved
     ensures { (m : List ℕ) → leaves result m ≡ row_p10 g who t m }
 {
@@ -210,6 +219,7 @@ fn p10(g: Ring, who: u32, t: Thread) -> Moved
 }
 
 // The row of a put place.
+#[tactic(auto, unfolding(rules::specs::Table::put_row))]
 pub fn put_row(g: Ring, who: u32, t: Thread, m: &mut [u32]) -> Moved
     requires { Ready g who t m.old }
     ensures { leaves result m.new ≡ put_row g who t m.old }

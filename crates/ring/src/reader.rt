@@ -7,6 +7,7 @@ use crate::choose;
 use rules::Control;
 
 // R is in range, the cell is one of R, and the image has them all.
+#[tactic(auto, unfolding(rules::specs::Reader::readable))]
 fn is_readable(cells: u32, cell: u32, m: &[u32]) -> bool
     ensures { result ≡ readable cells cell m.now }
 {
@@ -15,6 +16,7 @@ fn is_readable(cells: u32, cell: u32, m: &[u32]) -> bool
 }
 
 // The cell's four numbers as part of the image, or a part of length 0.
+#[tactic(auto, unfolding(rules::specs::Memory::cell_numbers))]
 fn part_of<'a>(cells: u32, cell: u32, m: &'a [u32]) -> &'a [u32]
     ensures { result.now ≡ cond (readable cells cell m.now) (cell_numbers cells m.now cell) [] }
 {
@@ -27,6 +29,7 @@ fn part_of<'a>(cells: u32, cell: u32, m: &'a [u32]) -> &'a [u32]
 }
 
 // The part of the image that is told: the kept one, or the running one.
+#[tactic(auto, unfolding(rules::specs::Reader::cell_part))]
 pub fn read<'a>(
     which: bool,
     cells: u32,

@@ -34,6 +34,7 @@ fn top_copy(cells: u32, threads: u32, m: &[u32]) -> u32
 }
 
 // The largest of all marks and copies.
+#[tactic(auto, unfolding(rules::specs::Cut::pass_mark))]
 pub fn pass_mark(cells: u32, threads: u32, m: &[u32]) -> u32
     requires { (cells ≤ max_cells) × (threads ≤ max_threads) × (size cells threads ≤ length m.now) }
     ensures { result ≡ pass_mark cells threads m.now }
@@ -44,6 +45,7 @@ pub fn pass_mark(cells: u32, threads: u32, m: &[u32]) -> u32
 }
 
 // An occupied cell with index ≥ pass mark.
+#[tactic(auto, unfolding(rules::specs::Cut::queued))]
 pub fn is_queued(mark: u32, c: Cell) -> bool
     ensures { result ≡ queued mark c }
 {
@@ -51,6 +53,7 @@ pub fn is_queued(mark: u32, c: Cell) -> bool
 }
 
 // The largest queued index + 1, or the pass mark.
+#[tactic(auto, unfolding(rules::specs::Cut::tail_of))]
 fn tail_of(cells: u32, mark: u32, m: &[u32]) -> u32
     requires { (cells ≤ max_cells) × (4 * cells ≤ length m.now) × ((j : ℕ) → j < cells → (cell_at cells m.now j).index < run_limit + max_cells) }
     ensures { result ≡ tail_of cells mark m.now }
@@ -77,6 +80,7 @@ fn head_of(cells: u32, mark: u32, tail: u32, m: &[u32]) -> u32
 }
 
 // How many cells are queued.
+#[tactic(auto, unfolding(rules::specs::Cut::count_of))]
 fn count_of(cells: u32, mark: u32, m: &[u32]) -> u32
     requires { (cells ≤ max_cells) × (4 * cells ≤ length m.now) }
     ensures { result ≡ count_of cells mark m.now }
@@ -90,6 +94,7 @@ fn count_of(cells: u32, mark: u32, m: &[u32]) -> u32
 }
 
 // What a cut of the kept image finds.
+#[tactic(auto, unfolding(rules::specs::Cut::finds, rules::specs::Cut::head_of))]
 pub fn find(cells: u32, threads: u32, m: &[u32]) -> Found
     requires { (cells ≤ max_cells) × (threads ≤ max_threads) × (size cells threads ≤ length m.now) × ((j : ℕ) → j < cells → (cell_at cells m.now j).index < run_limit + max_cells) }
     ensures { result ≡ finds cells threads m.now }
@@ -107,6 +112,7 @@ pub fn find(cells: u32, threads: u32, m: &[u32]) -> Found
 }
 
 // A cell as recovery leaves it.
+#[tactic(auto, unfolding(rules::specs::Cut::mended))]
 fn mend(cells: u32, mark: u32, head: u32, c: Cell) -> Cell
     requires { (cells ≤ max_cells) × (c.index < run_limit + max_cells) }
     ensures { result ≡ mended cells mark head c }
@@ -150,10 +156,11 @@ pub fn set_copies(cells: u32, threads: u32, v: u32, m: &mut [u32])
 }
 
 // The kept image becomes the recovered one.
+#[tactic(auto, unfolding(rules::specs::Cut::finds, rules::specs::Cut::recovered))]
 pub fn recover(cells: u32, threads: u32, m: &mut [u32]) -> Found
     requires { (cells ≤ max_cells) × (threads ≤ max_threads) × (size cells threads ≤ length m.old) × ((j : ℕ) → j < cells → (cell_at cells m.old j).index < run_limit + max_cells) }
-    ensures value { result ≡ finds cells threads m.old }
-    ensures m_after { m.new ≡ recovered cells threads m.old }
+    ensures found { result ≡ finds cells threads m.old }
+    ensures image { m.new ≡ recovered cells threads m.old }
 {
     let f = find(cells, threads, m);
     mend_cells(cells, f.mark, f.head, m);

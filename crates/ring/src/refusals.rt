@@ -7,6 +7,7 @@ use crate::{choose, memory, sound};
 use rules::{Control, Line, Ring, Thread};
 
 // Setup.
+#[tactic(auto, unfolding(rules::specs::Refusals::setup_refusal))]
 pub fn of_setup(cells: u32, threads: u32, tries: u32, running: &[u32], kept: &[u32]) -> u32
     ensures { result ≡ setup_refusal cells threads tries running.now kept.now }
 {
@@ -24,6 +25,7 @@ pub fn of_setup(cells: u32, threads: u32, tries: u32, running: &[u32], kept: &[u
 }
 
 // What every event tests first.
+#[tactic(auto, unfolding(rules::specs::Refusals::unsound))]
 pub fn unsound(c: Control, running: &[u32], kept: &[u32]) -> u32
     ensures { result ≡ unsound (state c running.now kept.now) }
 {
@@ -118,6 +120,7 @@ pub fn of_cut(g: Ring) -> u32
 }
 
 // Host recovery.
+#[tactic(auto, unfolding(rules::specs::Refusals::kept_refusal))]
 pub fn of_kept(cells: u32, threads: u32, tries: u32, events: u32, kept: &[u32]) -> u32
     ensures { result ≡ kept_refusal cells threads tries events kept.now }
 {

@@ -7,6 +7,7 @@ use crate::choose;
 use rules::{Answer, By, Cell, Line, Moved, Ring, Thread};
 
 // All four numbers are equal.
+#[tactic(auto, unfolding(rules::specs::Table::same))]
 pub fn same(c: Cell, d: Cell) -> bool
     ensures { result ≡ same c d }
 {
@@ -83,6 +84,7 @@ pub fn with_wait(t: Thread, line: Line, place: u32) -> Thread
 }
 
 // P6, P10, T10: the last answer once nothing is awaited.
+#[tactic(auto, unfolding(rules::specs::Table::row_wait))]
 pub fn wait(g: Ring, who: u32, t: Thread, last: Answer) -> Moved
     ensures { (m : List ℕ) → leaves result m ≡ row_wait g who t m last }
 {

@@ -10,6 +10,7 @@ use crate::{choose, memory, rows};
 use rules::{Cell, Control, Line, Ring, Thread};
 
 // R, n and S are in range.
+#[tactic(auto, unfolding(rules::specs::Numbers::in_range))]
 pub fn in_range(cells: u32, threads: u32, tries: u32) -> bool
     ensures { result ≡ in_range cells threads tries }
 {
@@ -22,6 +23,7 @@ pub fn in_range(cells: u32, threads: u32, tries: u32) -> bool
 }
 
 // The ring's numbers are sound.
+#[tactic(auto, unfolding(rules::specs::Sound::sound_ring))]
 fn sound_ring(g: Ring) -> bool
     ensures { result ≡ sound_ring g }
 {
@@ -30,6 +32,7 @@ fn sound_ring(g: Ring) -> bool
 }
 
 // The line is one of the ring's.
+#[tactic(auto, unfolding(rules::specs::Line::line_exists))]
 pub fn line_exists(cells: u32, threads: u32, line: Line) -> bool
     ensures { result ≡ line_exists cells threads line }
 {
@@ -42,6 +45,7 @@ pub fn line_exists(cells: u32, threads: u32, line: Line) -> bool
 }
 
 // All fields are zero or none.
+#[tactic(auto, unfolding(rules::specs::Sound::all_zero))]
 fn all_zero(t: Thread) -> bool
     ensures { result ≡ all_zero t }
 {
@@ -64,6 +68,7 @@ fn all_zero(t: Thread) -> bool
 }
 
 // A number below the event count; at P1 and T1 zero will do.
+#[tactic(auto, unfolding(rules::specs::Sound::sound_number))]
 fn sound_number(g: Ring, t: Thread) -> bool
     ensures { result ≡ sound_number g t }
 {
@@ -72,6 +77,7 @@ fn sound_number(g: Ring, t: Thread) -> bool
 }
 
 // A busy thread is sound.
+#[tactic(auto, unfolding(rules::specs::Sound::sound_busy))]
 fn sound_busy(g: Ring, t: Thread) -> bool
     ensures { result ≡ sound_busy g t }
 {
@@ -87,6 +93,7 @@ fn sound_busy(g: Ring, t: Thread) -> bool
 }
 
 // Thread i is sound.
+#[tactic(auto, unfolding(rules::specs::Sound::sound_thread))]
 fn sound_thread(g: Ring, i: u32, t: Thread) -> bool
     ensures { result ≡ sound_thread g i t }
 {
@@ -97,6 +104,7 @@ fn sound_thread(g: Ring, i: u32, t: Thread) -> bool
 }
 
 // The control record is sound.
+#[tactic(auto, unfolding(rules::specs::Record::thread_at, rules::specs::Sound::sound_record))]
 pub fn sound_record(c: Control) -> bool
     ensures { result ≡ sound_record c }
 {
@@ -111,6 +119,7 @@ pub fn sound_record(c: Control) -> bool
 }
 
 // A cell is sound.
+#[tactic(auto, unfolding(rules::specs::Sound::sound_cell))]
 fn sound_cell(cells: u32, events: u32, c: Cell) -> bool
     requires { (cells ≤ max_cells) × (events ≤ run_limit) }
     ensures { result ≡ sound_cell cells events c }
@@ -146,6 +155,7 @@ fn sound_copies(cells: u32, threads: u32, events: u32, m: &[u32]) -> bool
 }
 
 // An image is sound.
+#[tactic(auto, unfolding(rules::specs::Sound::sound_image))]
 pub fn sound_image(cells: u32, threads: u32, events: u32, m: &[u32]) -> bool
     requires { (cells ≤ max_cells) × (threads ≤ max_threads) × (events ≤ run_limit) × (size cells threads ≤ length m.now) }
     ensures { result ≡ sound_image cells threads events m.now }

@@ -8,6 +8,7 @@ use crate::{choose, memory, rows};
 use rules::{Answer, By, Cell, Line, Moved, Ring, Thread};
 
 // T1: draws Head.
+#[tactic(auto, unfolding(rules::specs::Table::row_t1))]
 fn t1(g: Ring, who: u32, t: Thread) -> Moved
     requires { g.head < run_limit }
     ensures { (m : List ℕ) → leaves result m ≡ row_t1 g who t m }
@@ -26,6 +27,7 @@ fn t1(g: Ring, who: u32, t: Thread) -> Moved
 }
 
 // T2: looks at the cell.
+#[tactic(auto, unfolding(rules::specs::Table::row_t2))]
 fn t2(g: Ring, who: u32, t: Thread, m: &[u32]) -> Moved
     requires { Ready g who t m.now }
     ensures { leaves result m.now ≡ row_t2 g who t m.now }
@@ -59,6 +61,7 @@ fn with_item(t: Thread, item: u32, place: u32) -> Thread
 }
 
 // T3: takes, if the cell still matches.
+#[tactic(auto, unfolding(rules::specs::Table::row_t3))]
 fn t3(g: Ring, who: u32, t: Thread, m: &mut [u32]) -> Moved
     requires { Ready g who t m.old }
     ensures { leaves result m.new ≡ row_t3 g who t m.old }
@@ -98,6 +101,7 @@ fn t3(g: Ring, who: u32, t: Thread, m: &mut [u32]) -> Moved
 }
 
 // T4: flags, if the cell still matches.
+#[tactic(auto, unfolding(rules::specs::Table::row_t4))]
 fn t4(g: Ring, who: u32, t: Thread, m: &mut [u32]) -> Moved
     requires { Ready g who t m.old }
     ensures { leaves result m.new ≡ row_t4 g who t m.old }
@@ -137,6 +141,7 @@ fn t4(g: Ring, who: u32, t: Thread, m: &mut [u32]) -> Moved
 }
 
 // T5: passes, if the cell still matches.
+#[tactic(auto, unfolding(rules::specs::Table::row_t5))]
 fn t5(g: Ring, who: u32, t: Thread, m: &mut [u32]) -> Moved
     requires { Ready g who t m.old }
     ensures { leaves result m.new ≡ row_t5 g who t m.old }
@@ -176,6 +181,7 @@ fn t5(g: Ring, who: u32, t: Thread, m: &mut [u32]) -> Moved
 }
 
 // T6: compares Tail.
+#[tactic(auto, unfolding(rules::specs::Table::row_t6))]
 fn t6(g: Ring, who: u32, t: Thread, m: &[u32]) -> Moved
     requires { Ready g who t m.now }
     ensures { leaves result m.now ≡ row_t6 g who t m.now }
@@ -196,6 +202,7 @@ fn t6(g: Ring, who: u32, t: Thread, m: &[u32]) -> Moved
 }
 
 // T7: lifts Tail.
+#[tactic(auto, unfolding(rules::specs::Table::row_t7))]
 fn t7(g: Ring, who: u32, t: Thread, m: &mut [u32]) -> Moved
     requires { Ready g who t m.old }
     ensures { leaves result m.new ≡ row_t7 g who t m.old }
@@ -217,6 +224,7 @@ fn t7(g: Ring, who: u32, t: Thread, m: &mut [u32]) -> Moved
 }
 
 // T8: sets its own copy of Head.
+#[tactic(auto, unfolding(rules::specs::Table::row_t8))]
 fn t8(g: Ring, who: u32, t: Thread, m: &mut [u32]) -> Moved
     requires { Ready g who t m.old }
     ensures { leaves result m.new ≡ row_t8 g who t m.old }
@@ -238,6 +246,7 @@ fn t8(g: Ring, who: u32, t: Thread, m: &mut [u32]) -> Moved
 }
 
 // T9: asks for its own copy.
+#[tactic(auto, unfolding(rules::specs::Table::row_t9))]
 fn t9(g: Ring, who: u32, t: Thread) -> Moved
     ensures { (m : List ℕ) → leaves result m ≡ row_t9 g who t m }
 {
@@ -253,6 +262,7 @@ fn t9(g: Ring, who: u32, t: Thread) -> Moved
 }
 
 // T10: waits, then ITEM or EMPTY.
+#[tactic(auto, unfolding(rules::specs::Table::row_t10))]
 fn t10(g: Ring, who: u32, t: Thread) -> Moved
     ensures { (m : List ℕ) → leaves result m ≡ row_t10 g who t m }
 {
@@ -267,9 +277,10 @@ fn t10(g: Ring, who: u32, t: Thread) -> Moved
 }
 
 // The row of a take place.
+#[tactic(auto, unfolding(rules::specs::Table::take_row))]
 pub fn take_row(g: Ring, who: u32, t: Thread, m: &mut [u32]) -> Moved
     requires ready { Ready g who t m.old }
-    requires head_lt_run_limit { g.head < run_limit }
+    requires within { g.head < run_limit }
     ensures { leaves result m.new ≡ take_row g who t m.old }
 {
     let place = t.place;

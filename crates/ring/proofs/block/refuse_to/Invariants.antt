@@ -1,0 +1,8 @@
+use Rattle.std.proofs.Common.{◌≡◌}
+use Rattle.rules.specs.Block.{run_to, upto}
+use Rattle.rules.specs.Refusals.{unsound}
+use Rattle.rules.specs.State.{State}
+use Rattle.ring.proofs.block.refuse_to.Given as goal
+
+abbrev pub invariant-loop-j : goal.invariant-loop-j
+invariant-loop-j l = (s : State) → l.k ≡ unsound s → upto s l.room ≡ run_to s l.block l.initial.room l.j

@@ -1,0 +1,12 @@
+use Rattle.std.proofs.Common.{add-one, arith, length, ◌<◌}
+use Rattle.ring.proofs.Sweep.{sweep_next}
+use Rattle.rules.specs.Line.{released}
+use Rattle.rules.specs.Record.{idle}
+use Rattle.ring.proofs.events.release_all.Goals as goal
+
+pub loop-i-preserved : goal.loop-i-preserved
+loop-i-preserved c =
+    let i = c.loop-i in
+    let a = c.args in
+    let h : i.i < length a.threads = omega arith in
+    rw (add-one, c.release.ensures, i.invariant, sweep_next (released a.line) a.threads i.i idle h)

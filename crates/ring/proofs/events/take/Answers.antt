@@ -1,0 +1,14 @@
+use Rattle.std.proofs.Common.{ap, ◌∙◌}
+use Rattle.ring.proofs.OneThread.{take_left}
+use Rattle.ring.specs.OneThread.{left}
+use Rattle.rules.specs.Account.{at}
+use Rattle.rules.specs.State.{state}
+use Rattle.rules.specs.Table.{Step}
+use Rattle.ring.proofs.events.take.Goals as goal
+
+pub returns : goal.returns
+returns c =
+    let a = c.args in
+    let s = state a.c a.running.now a.kept.now in
+    let e = rw c.thread_at-t.ensures at (c.take.ensures a.running.now) in
+    rw c.placed.ensures (ap (λ (y : Step). left s a.i y) e ∙ take_left s a.i)
