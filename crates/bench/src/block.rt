@@ -14,6 +14,7 @@ pub struct Scan {
 }
 
 // A byte of a line goes to the carry, if that is not full.
+#[tactic(auto, unfolding(crate::specs::Block::keep_len, crate::specs::Block::keep_carry))]
 fn keep(carry: &mut [u8; 41], len: usize, b: u8) -> usize
     ensures len { result ≡ keep_len len }
     ensures carry { carry.new ≡ keep_carry carry.old len b }
@@ -64,6 +65,7 @@ pub fn has_room(out: &[u8], at: usize, need: usize) -> bool
 }
 
 // How many lines have room for their output.
+#[tactic(auto, unfolding(crate::specs::Block::line_room))]
 pub fn line_room(out: &[u8], at: usize) -> usize
     ensures { result ≡ line_room out.now at }
 {

@@ -67,6 +67,7 @@ fn three_of(c: Command) -> Three
 }
 
 // Three numbers into the block of events.
+#[tactic(auto, unfolding(crate::specs::Gather::list))]
 fn set_three(events: &mut [u32], at: usize, t: Three)
     requires { at + 3 ≤ length events.old }
     ensures { events.new ≡ sets events.old at (list t) }

@@ -120,6 +120,7 @@ pub fn feed(
 }
 
 // The end of the input: the last line, if its newline is missing or no line was read, and the event count. It wants room for 4,096 bytes.
+#[tactic(auto, unfolding(crate::specs::Bench::end_says))]
 pub fn finish(
     bench: Bench,
     carry: &[u8],

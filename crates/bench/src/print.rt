@@ -81,6 +81,7 @@ fn put_digits(f: usize, n: u64, out: &mut [u8], at: usize) -> usize
 }
 
 // A number in decimal.
+#[tactic(auto, unfolding(crate::specs::Decimal::decimal))]
 fn put_decimal(n: u64, out: &mut [u8], at: usize) -> usize
     requires { at + 20 ≤ length out.old }
     ensures wrote { Wrote out.old at (decimal n) out.new result }
@@ -128,6 +129,7 @@ fn put_word(k: &[u8], out: &mut [u8], at: usize) -> usize
 }
 
 // The event count, a word and its numbers.
+#[tactic(auto, unfolding(crate::specs::Print::head_text))]
 fn put_head(e: u32, k: &[u8], ns: &[u32], out: &mut [u8], at: usize) -> usize
     requires { (length k.now ≤ 8) × (length ns.now ≤ 8) × (at + 256 ≤ length out.old) }
     ensures wrote { Wrote out.old at (head_text e k.now ns.now) out.new result }
@@ -140,6 +142,7 @@ fn put_head(e: u32, k: &[u8], ns: &[u32], out: &mut [u8], at: usize) -> usize
 }
 
 // The event count, a word, its numbers, a newline.
+#[tactic(auto, unfolding(crate::specs::Print::counted_text))]
 fn put_counted(e: u32, k: &[u8], ns: &[u32], out: &mut [u8], at: usize) -> usize
     requires { (length k.now ≤ 8) × (length ns.now ≤ 8) × (at + 256 ≤ length out.old) }
     ensures wrote { Wrote out.old at (counted_text e k.now ns.now) out.new result }
@@ -150,6 +153,7 @@ fn put_counted(e: u32, k: &[u8], ns: &[u32], out: &mut [u8], at: usize) -> usize
 }
 
 // What a cut found and the items that it queued.
+#[tactic(auto, unfolding(crate::specs::Print::counted_text, crate::specs::Print::said_text))]
 fn put_cut(e: u32, f: Found, items: &[u32], out: &mut [u8], at: usize) -> usize
     requires { (length items.now ≤ 64) × (at + 2048 ≤ length out.old) }
     ensures wrote { Wrote out.old at (said_text e 0 items.now (Said.Cut f)) out.new result }
@@ -162,6 +166,7 @@ fn put_cut(e: u32, f: Found, items: &[u32], out: &mut [u8], at: usize) -> usize
 }
 
 // A refused line's number and the refusal's.
+#[tactic(auto, unfolding(crate::specs::Print::line_text, crate::specs::Print::said_text))]
 pub fn put_refused(l: u64, k: u32, out: &mut [u8], at: usize) -> usize
     requires { at + 256 ≤ length out.old }
     ensures wrote { Wrote out.old at (said_text 0 l [] (Said.Refused k)) out.new result }
@@ -174,6 +179,7 @@ pub fn put_refused(l: u64, k: u32, out: &mut [u8], at: usize) -> usize
 }
 
 // The last line.
+#[tactic(auto, unfolding(crate::specs::Print::end_text, crate::specs::Print::line_text))]
 pub fn put_end(e: u32, out: &mut [u8], at: usize) -> usize
     requires { at + 256 ≤ length out.old }
     ensures wrote { Wrote out.old at (end_text e) out.new result }
@@ -185,6 +191,7 @@ pub fn put_end(e: u32, out: &mut [u8], at: usize) -> usize
 }
 
 // The line that is printed, if any.
+#[tactic(auto, unfolding(crate::specs::Print::said_text))]
 pub fn put_said(e: u32, l: u64, s: Said, items: &[u32], out: &mut [u8], at: usize) -> usize
     requires { (length items.now ≤ 64) × (at + 2048 ≤ length out.old) }
     ensures wrote { Wrote out.old at (said_text e l items.now s) out.new result }

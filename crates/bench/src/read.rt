@@ -42,6 +42,7 @@ pub struct Numbers {
 }
 
 // A digit's value, 10 for any other byte.
+#[tactic(auto, unfolding(crate::specs::Read::digit_of))]
 fn digit_of(b: u8) -> u64
     ensures { (result ≡ digit_of b) × (result ≤ 10) }
 {
@@ -129,6 +130,7 @@ fn none() -> Numbers
 }
 
 // Two numbers and a third, which ends the line.
+#[tactic(auto, unfolding(crate::specs::Read::third))]
 fn third(s: &[u8], a: u32, b: u32, n: Number) -> Numbers
     ensures { result ≡ third s.now a b n }
 {
@@ -150,6 +152,7 @@ fn third(s: &[u8], a: u32, b: u32, n: Number) -> Numbers
 }
 
 // A number and a second, which ends the line, or a third.
+#[tactic(auto, unfolding(crate::specs::Read::second))]
 fn second(s: &[u8], a: u32, n: Number) -> Numbers
     ensures { result ≡ second s.now a n }
 {
@@ -171,6 +174,7 @@ fn second(s: &[u8], a: u32, n: Number) -> Numbers
 }
 
 // A first number, which ends the line, or a second.
+#[tactic(auto, unfolding(crate::specs::Read::first))]
 fn first(s: &[u8], n: Number) -> Numbers
     ensures { result ≡ first s.now n }
 {
@@ -192,6 +196,7 @@ fn first(s: &[u8], n: Number) -> Numbers
 }
 
 // The numbers from a place to the line's end, each after one space.
+#[tactic(auto, unfolding(crate::specs::Read::numbers_at))]
 fn numbers_at(s: &[u8], at: usize) -> Numbers
     ensures { result ≡ numbers_at s.now at }
 {
@@ -311,6 +316,7 @@ fn made(w: Word, n: Numbers) -> Command
 }
 
 // The command of a line that begins with a word.
+#[tactic(auto, unfolding(crate::specs::Read::command_of))]
 fn command_of(s: &[u8], w: Word) -> Command
     ensures { result ≡ command_of s.now w }
 {
@@ -322,6 +328,7 @@ fn command_of(s: &[u8], w: Word) -> Command
 }
 
 // The command that a line is, without its newline.
+#[tactic(auto, unfolding(crate::specs::Read::line_of))]
 pub fn line(s: &[u8]) -> Command
     ensures { result ≡ line_of s.now }
 {

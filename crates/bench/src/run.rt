@@ -20,6 +20,7 @@ pub struct Ran {
 }
 
 // The next line's number. A count of 64 bits stays at its largest number.
+#[tactic(auto, unfolding(crate::specs::Bench::next_line))]
 pub fn next_line(l: u64) -> u64
     ensures { result ≡ next_line l }
 {
@@ -86,6 +87,7 @@ fn set_up(
 }
 
 // The first line.
+#[tactic(auto, unfolding(crate::specs::Bench::first_line, crate::specs::Bench::first_says))]
 fn first_line(
     l: u64,
     control: Control,
@@ -219,6 +221,7 @@ fn later_line(
 }
 
 // The line that the first n bytes of the carry hold.
+#[tactic(auto, unfolding(crate::specs::Bench::ran_line, crate::specs::Bench::line_says))]
 pub fn run_carried(
     b: Bench,
     carry: &[u8],
@@ -264,6 +267,7 @@ fn is_open(phase: Phase, n: usize) -> bool
 }
 
 // The last line, if it is open.
+#[tactic(auto, unfolding(crate::specs::Stream::last_ran, crate::specs::Stream::last_says))]
 pub fn run_last(
     b: Bench,
     carry: &[u8],

@@ -28,6 +28,7 @@ pub struct Batch {
 }
 
 // The event count after an answer with that number. A count of 32 bits stays at its largest number.
+#[tactic(auto, unfolding(crate::specs::Gather::next_count))]
 fn next_count(e: u32, k: u32) -> u32
     ensures { result ≡ next_count e k }
 {
@@ -41,6 +42,7 @@ fn next_count(e: u32, k: u32) -> u32
 }
 
 // What is printed of an answer's six numbers.
+#[tactic(auto, unfolding(crate::specs::Gather::said_six))]
 fn said_of_six(k: u32, a: u32, b: u32, c: u32, d: u32, e: u32) -> Said
     ensures { result ≡ said_six k a b c d e }
 {
@@ -62,6 +64,7 @@ fn said_of_six(k: u32, a: u32, b: u32, c: u32, d: u32, e: u32) -> Said
 }
 
 // What is printed of the answer at a place of the room.
+#[tactic(auto, unfolding(crate::specs::Gather::said_at))]
 fn said_at(room: &[u32], p: usize) -> Said
     requires { p + 6 ≤ length room.now }
     ensures { result ≡ said_at room.now p }
@@ -77,6 +80,7 @@ fn said_at(room: &[u32], p: usize) -> Said
 }
 
 // The line of answer j, after event count e and line l.
+#[tactic(auto, unfolding(crate::specs::Gather::prints))]
 fn print_one(e: u32, l: u64, room: &[u32], j: usize, out: &mut [u8], at: usize) -> Printed
     requires { (6 * j + 6 ≤ length room.now) × (at + 2048 ≤ length out.old) }
     ensures { AnswersPrinted (prints (printed e l []) room.now j) 1 out.old at result.count result.line out.new result.at }

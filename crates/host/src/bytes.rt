@@ -10,6 +10,7 @@ fn wide(x: u8) -> u32
 }
 
 // Number j of the bytes.
+#[tactic(auto, unfolding(crate::specs::Bytes::number_at))]
 fn read_number(b: &[u8], j: usize) -> u32
     requires { (j < 266) × (4 * j + 4 ≤ length b.now) }
     ensures { result ≡ number_at b.now j }
@@ -23,6 +24,7 @@ fn read_number(b: &[u8], j: usize) -> u32
 }
 
 // Number j of the bytes becomes x.
+#[tactic(auto, unfolding(crate::specs::Bytes::set_number))]
 fn write_number(b: &mut [u8], j: usize, x: u32)
     requires { (j < 266) × (4 * j + 4 ≤ length b.old) }
     ensures { b.new ≡ set_number b.old j x }
