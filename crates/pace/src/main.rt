@@ -1,8 +1,12 @@
 // A million events over a ring of 64 cells and 8 threads, one by one or in blocks, as the first byte of standard input says (1: one by one).
-// speed/run times it: the difference is what it costs to take any memory at each event.
+// speed/run times it: the difference is what it costs to take any memory at each event. A read or a write that fails ends it with the error.
+#![tactic(auto)]
+
 ghost use Rattle.std.specs.Prelude.{◌≤◌};
 
 use rules::Control;
+use std::io;
+use std::io::Read;
 
 // Event k of the block.
 fn set_three(events: &mut [u32; 765], k: usize, kind: u32, place: u32, item: u32)
@@ -95,15 +99,15 @@ fn run(single: bool, running: &mut [u32], kept: &mut [u32]) -> u32 {
     c.ring.events
 }
 
-fn main() {
+fn main(rt: HostRuntime) -> io::Result<()> {
     let mut running = [0u32; 266];
     let mut kept = [0u32; 266];
     let mut input = [0u8; 1];
-    libc::read(0, &mut input);
+    rt.stdin().read(&mut input)?;
     let events = run(input[0] == 49, &mut running, &mut kept);
     if events == 999855 {
-        io::write_all(1, b"all\n");
+        rt.write_all(b"all\n")
     } else {
-        io::write_all(1, b"not all\n");
+        rt.write_all(b"not all\n")
     }
 }

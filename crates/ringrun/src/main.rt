@@ -1,7 +1,11 @@
-// ringrun: standard input, a block at a time, through the bench to standard output.
+// ringrun: standard input, a block at a time, through the bench to standard output. A read or a write that fails ends it with the error.
+#![tactic(auto)]
+
 ghost use Rattle.std.specs.Prelude.{◌≤◌, length};
 
 use bench::{Bench, Phase};
+use std::io;
+use std::io::Read;
 
 // How far the input has come: the bench, the bytes that the carry holds, and whether input was left.
 #[derive(Clone, Copy)]
@@ -23,6 +27,7 @@ fn reads_on(b: Bench) -> bool {
 
 // A block is fed, and its output written as often as the buffer is full.
 fn pour(
+    rt: &impl Print,
     b: Bench,
     carry: &mut [u8; 41],
     len: usize,
@@ -30,7 +35,7 @@ fn pour(
     kept: &mut [u32],
     block: &[u8],
     out: &mut [u8],
-) -> Poured
+) -> io::Result<Poured>
     requires { 2048 ≤ length out.old }
 {
     let mut g = b;
@@ -39,21 +44,23 @@ fn pour(
     while i < block.len() {
         let f = bench::feed(g, carry, n, running, kept, block, i, out, 0);
         let used = f.at;
-        io::write_all(1, &out[..used]);
+        rt.write_all(&out[..used])?;
         g = f.bench;
         n = f.len;
         i = f.next;
     }
     let more = reads_on(g);
-    Poured {
+    Ok(Poured {
         bench: g,
         len: n,
         more,
-    }
+    })
 }
 
 // One block of input.
 fn turn(
+    rt: &impl Print,
+    input: &mut impl Read,
     b: Bench,
     carry: &mut [u8; 41],
     len: usize,
@@ -61,22 +68,23 @@ fn turn(
     kept: &mut [u32],
     block: &mut [u8],
     out: &mut [u8],
-) -> Poured
+) -> io::Result<Poured>
     requires { 2048 ≤ length out.old }
 {
-    let got = libc::read(0, block);
-    let n = io::count(got, block);
+    let n = input.read(block)?;
     if n == 0 {
-        return Poured {
+        return Ok(Poured {
             bench: b,
             len,
             more: false,
-        };
+        });
     }
-    pour(b, carry, len, running, kept, &block[..n], out)
+    pour(rt, b, carry, len, running, kept, &block[..n], out)
 }
 
 fn turn_on(
+    rt: &impl Print,
+    input: &mut impl Read,
     b: Bench,
     carry: &mut [u8; 41],
     len: usize,
@@ -84,46 +92,50 @@ fn turn_on(
     kept: &mut [u32; 266],
     block: &mut [u8; 65536],
     out: &mut [u8; 524288],
-) -> Poured {
-    turn(b, carry, len, running, kept, block, out)
+) -> io::Result<Poured> {
+    turn(rt, input, b, carry, len, running, kept, block, out)
 }
 
 // The last line and the end.
 fn finish(
+    rt: &impl Print,
     b: Bench,
     carry: &[u8],
     len: usize,
     running: &mut [u32],
     kept: &mut [u32],
     out: &mut [u8],
-) {
+) -> io::Result<()> {
     let f = bench::finish(b, carry, len, running, kept, out, 0);
     let used = f.at;
-    io::write_all(1, &out[..used]);
+    rt.write_all(&out[..used])
 }
 
 fn finish_on(
+    rt: &impl Print,
     b: Bench,
     carry: &[u8; 41],
     len: usize,
     running: &mut [u32; 266],
     kept: &mut [u32; 266],
     out: &mut [u8; 524288],
-) {
-    finish(b, carry, len, running, kept, out);
+) -> io::Result<()> {
+    finish(rt, b, carry, len, running, kept, out)
 }
 
-fn main() {
+fn main(rt: HostRuntime) -> io::Result<()> {
     let mut carry = [0u8; 41];
     let mut running = [0u32; 266];
     let mut kept = [0u32; 266];
     let mut block = [0u8; 65536];
     let mut out = [0u8; 524288];
+    let mut input = rt.stdin();
     let mut b = Bench::fresh();
     let mut len = 0;
-    let mut turns = u64::MAX;
-    while turns > 0 {
+    for _ in 0..u64::MAX {
         let p = turn_on(
+            &rt,
+            &mut input,
             b,
             &mut carry,
             len,
@@ -131,13 +143,12 @@ fn main() {
             &mut kept,
             &mut block,
             &mut out,
-        );
+        )?;
         b = p.bench;
         len = p.len;
         if !p.more {
             break;
         }
-        turns -= 1;
     }
-    finish_on(b, &carry, len, &mut running, &mut kept, &mut out);
+    finish_on(&rt, b, &carry, len, &mut running, &mut kept, &mut out)
 }
