@@ -1,5 +1,5 @@
 #!/usr/bin/env bash
-# Builds the C programs of the tests and the example, with the archive that 'rt staticlib host' made, into target/client.
+# Builds the C programs of the tests and the example, with the archive that 'rt lib' made in crates/host, into target/client.
 # The archive is for x86-64, so elsewhere they are cross-compiled, and the tests run them by qemu-x86_64.
 set -euo pipefail
 cd "$(dirname "$(readlink -f "$0")")/.."
@@ -10,8 +10,8 @@ fail() {
 }
 
 rm -rf target/client
-archive=target/staticlib/libhost.a
-[ -f "$archive" ] || fail "there is no $archive: 'rt staticlib host' makes it"
+archive=crates/host/out/libhost.a
+[ -f "$archive" ] || fail "there is no $archive: 'rt lib' in crates/host makes it"
 case $(uname -m) in
     x86_64) compile=(cc '-Wl,-z,now') ;;
     *) compile=(x86_64-linux-gnu-gcc -static) ;;

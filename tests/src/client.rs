@@ -9,9 +9,9 @@ use std::time::SystemTime;
 /// A program of `build-client.sh`, not yet started. The archive that it was linked with must be
 /// there and no younger. It is for x86-64, and run by an emulator elsewhere.
 pub fn program(name: &str) -> Command {
-    let target = Path::new(env!("CARGO_MANIFEST_DIR")).join("../target");
-    let path = target.join("client").join(name);
-    let (archive, built) = (age(target.join("staticlib/libhost.a")), age(path.clone()));
+    let root = Path::new(env!("CARGO_MANIFEST_DIR")).join("..");
+    let path = root.join("target/client").join(name);
+    let (archive, built) = (age(root.join("crates/host/out/libhost.a")), age(path.clone()));
     assert!(archive <= built, "{} is older than the archive: build it again", path.display());
     if cfg!(target_arch = "x86_64") {
         return Command::new(path);
@@ -26,7 +26,7 @@ fn age(file: PathBuf) -> SystemTime {
     let time = std::fs::metadata(&file).and_then(|known| known.modified());
     time.unwrap_or_else(|error| {
         let name = file.display();
-        panic!("{name}: {error}; 'rt staticlib host' and tests/build-client.sh make it")
+        panic!("{name}: {error}; 'rt lib' in crates/host and tests/build-client.sh make it")
     })
 }
 

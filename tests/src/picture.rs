@@ -38,22 +38,21 @@ fn is_place(word: &str) -> bool {
     word.len() > 1 && word.starts_with(['P', 'T']) && word[1..].bytes().all(|b| b.is_ascii_digit())
 }
 
-/// The rows, from the text of the definitions: each is a definition `rowX` and its body up to an empty line.
+/// The rows, from the text of the definitions: each is a definition `row_x` and its body up to an empty line.
 pub fn rows(table: &str) -> Vec<Row> {
     let mut rows = Vec::new();
     for part in table.split("\n\n") {
         let Some(body) =
-            part.lines().position(|l| l.starts_with("row") && l.contains(" g i t m ="))
+            part.lines().position(|l| l.starts_with("row_") && l.contains(" g i t m ="))
         else {
             continue;
         };
         let body: String = part.lines().skip(body).collect::<Vec<_>>().join("\n");
-        let Some(place) =
-            words(&body).next().and_then(|w| w.strip_prefix("row")).filter(|w| is_place(w))
-        else {
+        let name = body.strip_prefix("row_").and_then(|rest| rest.split(' ').next());
+        let Some(place) = name.map(str::to_uppercase).filter(|w| is_place(w)) else {
             continue;
         };
-        let waits = body.contains("rowWait");
+        let waits = body.contains("row_wait");
         let says = |name: &str| words(&body).any(|w| w == name) || (waits && name == "Waiting");
         let answers =
             ANSWERS.iter().filter(|(name, _)| says(name)).map(|(_, text)| *text).collect();
@@ -66,7 +65,7 @@ pub fn rows(table: &str) -> Vec<Row> {
         if waits {
             to = vec!["idle".to_string()];
         }
-        rows.push(Row { place: place.to_string(), answers, to });
+        rows.push(Row { place, answers, to });
     }
     rows
 }
