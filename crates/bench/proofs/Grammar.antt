@@ -14,7 +14,7 @@ use Rattle.bench.specs.declared.read.Numbers.{Numbers}
 use Rattle.bench.specs.declared.read.Word.{Word}
 use Rattle.bench.specs.declared.read.Word.TheVariants as word
 use Rattle.bench.specs.declared.read.Command.TheVariants.{Ring, Event, NotUnderstood}
-use Rattle.bench.specs.Read.{numbers_of, third, second, first, numbers_at, starts_with, text, first_word, wants, made, command_of, line_of}
+use Rattle.bench.specs.Read.{numbers_of, numbers_at, starts_with, text, first_word, wants, made, command_of, line_of}
 use Rattle.bench.specs.Decimal.{decimal, spaced}
 use Rattle.bench.specs.Grammar.{Small, Is, Says, TextIsRead, ReadIsText}
 use Rattle.bench.proofs.Decimal.{length_small}

@@ -20,7 +20,7 @@ use Rattle.rules.specs.Tale.{In, CutOff, Tale, tells, Gone}
 use Rattle.rules.proofs.Tests.{getD-all}
 use Rattle.rules.proofs.Recovered.{tail_from, head_under, head_from}
 use Rattle.rules.proofs.D3Inv.{Inv, cells_of, threads_of, run_cell}
-use Rattle.rules.proofs.D3Cut.{mark_is, mark_top, base_mark, mark, head, rest, rest_is, rest_of, run_tail, cut_closed, keep_cut}
+use Rattle.rules.proofs.D3Cut.{mark_is, mark_top, base_mark, mark, rest, rest_is, rest_of, run_tail, cut_closed, keep_cut}
 use Rattle.rules.proofs.D3Queue.{below_tail, above_head}
 use Rattle.rules.proofs.D3Drawn.{Dead, Taken, InCell, OutOf}
 use Rattle.rules.proofs.D3Told.{Within, Says, HandsAt, ConfsAt, Told}

@@ -20,7 +20,7 @@ use Rattle.rules.specs.Line.{is_none}
 use Rattle.rules.specs.Table.{Step, same, row_wait, row_p1, row_p2, row_p3, row_p4, row_p5, row_p6, row_p7, row_p8, row_p9, row_p10, row_t1, row_t2, row_t3, row_t4, row_t5, row_t6, row_t7, row_t8, row_t9, row_t10, row}
 use Rattle.rules.specs.State.{State, Out}
 use Rattle.rules.specs.Events.{begin_put, begin_take, step_thread, write_back, cut, event, answers}
-use Rattle.rules.specs.Account.{Account, at}
+use Rattle.rules.specs.Account.{Account}
 use Rattle.rules.specs.Tale.{In, Tale, tells, tale, adds, Heard}
 use Rattle.rules.specs.Demand3.{New}
 use Rattle.rules.proofs.Tests.{cond_cases}

@@ -12,9 +12,9 @@ use Rattle.rules.specs.declared.Answer.{Answer}
 use Rattle.rules.specs.Record.{idle, thread_at}
 use Rattle.rules.specs.Memory.{closed_at, tail_at}
 use Rattle.rules.specs.Line.{is_none}
-use Rattle.rules.specs.Table.{Step, same, to, drawing, looking, gives_up, row_wait, row_p1, row_p2, row_p3, row_p4, row_p5, row_p7, row_p8, row_p9, row}
+use Rattle.rules.specs.Table.{Step, same, to, drawing, looking, gives_up, row_wait, row_p1, row_p2, row_p3, row_p4, row_p5, row_p7, row_p8, row_p9}
 use Rattle.rules.specs.State.{State}
-use Rattle.rules.specs.Account.{Account, enters, passes}
+use Rattle.rules.specs.Account.{Account, enters}
 use Rattle.rules.proofs.Tests.{cond_cases, both}
 use Rattle.rules.proofs.Sound.{same_eq}
 use Rattle.rules.proofs.D3Cells.{at_here, at_else, unlanded, land_keeps}

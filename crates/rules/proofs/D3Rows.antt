@@ -12,7 +12,7 @@ use Rattle.rules.specs.Record.{cell, thread_at}
 use Rattle.rules.specs.Memory.{set_cell, tail_at}
 use Rattle.rules.specs.Table.{same, to, looking, row_p6, row_p10, row_t1, row_t2, row_t3, row_t4, row_t5, row_t6, row_t7, row_t8, row_t9, row_t10, row}
 use Rattle.rules.specs.State.{State}
-use Rattle.rules.specs.Account.{Account, at, enters, passes, copies}
+use Rattle.rules.specs.Account.{Account, at, enters, passes}
 use Rattle.rules.proofs.Tests.{cond_cases}
 use Rattle.rules.proofs.Sound.{same_eq}
 use Rattle.rules.proofs.D3Cells.{at_here, pass_keeps, flag_keeps}

@@ -10,7 +10,7 @@ use Rattle.rules.specs.declared.Event.{Event}
 use Rattle.rules.specs.declared.Event.TheVariants.{Put, Take, Go, Back, Cut as CutEvent}
 use Rattle.rules.specs.Numbers.{run_limit}
 use Rattle.rules.specs.Record.{thread_at, with_thread}
-use Rattle.rules.specs.State.{State, state, refused, accept}
+use Rattle.rules.specs.State.{State, refused, accept}
 use Rattle.rules.specs.Refusals.{unsound, own_refusal, refusal}
 use Rattle.rules.specs.Events.{begin_put, begin_take, step_thread, write_back, cut, does, inner, event}
 use Rattle.rules.specs.Facts.{Sound}

@@ -19,7 +19,6 @@ pub struct Six {
 }
 
 // Whether it is the kind of an event.
-
 pub fn is_kind(kind: u32) -> bool
     ensures { result ≡ is_kind kind }
 {

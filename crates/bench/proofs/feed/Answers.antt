@@ -1,7 +1,6 @@
 use Rattle.std.proofs.Common.{arith, length, refl, ◌∙◌}
-use Rattle.bench.proofs.Blocks.{room, room-start, room_next, room_within, run-full, run_end, run_line, run_scan, whole}
+use Rattle.bench.proofs.Blocks.{room-start, room_next, room_within, run-full, run_end, run_line, run_scan, whole}
 use Rattle.bench.specs.Bench.{run_with}
-use Rattle.rules.specs.State.{outcome}
 use Rattle.bench.proofs.feed.Goals as goal
 
 pub loop-i-init : goal.loop-i-init

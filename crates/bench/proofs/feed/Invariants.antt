@@ -1,5 +1,4 @@
 use Rattle.std.proofs.Common.{drop, length, ◌*◌, ◌+◌, ◌-◌, ◌≡◌, ◌≤◌}
-use Rattle.bench.proofs.Blocks.{room}
 use Rattle.bench.specs.Bench.{run_with}
 use Rattle.bench.specs.Block.{line_room, pour}
 use Rattle.bench.proofs.feed.Given as goal

@@ -1,7 +1,6 @@
 use Rattle.std.proofs.Common.{sym, ◌∙◌}
-use Rattle.bench.proofs.Blocks.{end_full, end_near, end_room, end_said, last-room, room}
+use Rattle.bench.proofs.Blocks.{end_full, end_near, end_room, end_said, last-room}
 use Rattle.bench.specs.Bench.{end_says, run_with}
-use Rattle.rules.specs.State.{outcome}
 use borrow.Author.Tests.{leb-true}
 use Rattle.bench.proofs.finish.Goals as goal
 

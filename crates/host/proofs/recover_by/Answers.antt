@@ -1,7 +1,5 @@
 use Rattle.std.proofs.Common.{arith}
 use Rattle.host.proofs.Front.{kept_by, recovered_by, refused_by}
-use Rattle.rules.proofs.CasesStates.{kept}
-use Rattle.rules.specs.Refusals.{refusal}
 use Rattle.host.proofs.recover_by.Goals as goal
 
 pub returns-then-refusal-ne0 : goal.returns-then-refusal-ne0

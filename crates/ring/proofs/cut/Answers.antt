@@ -2,7 +2,6 @@ use Rattle.std.proofs.Common.{sym, ◌∙◌}
 use Rattle.ring.proofs.Laws.{told}
 use Rattle.rules.proofs.Events.{event-inner, event-refused}
 use Rattle.rules.proofs.Sound.{sound_of}
-use Rattle.rules.specs.State.{outcome}
 use Rattle.ring.proofs.cut.Goals as goal
 
 pub returns-then-k-ne0 : goal.returns-then-k-ne0

@@ -1,4 +1,3 @@
-use Rattle.std.proofs.Common.{arith}
 use borrow.Author.Tests.{lt-leb, le-leb}
 use Rattle.rules.specs.Block.{is_kind}
 use Rattle.wire.proofs.is_kind.Goals as goal

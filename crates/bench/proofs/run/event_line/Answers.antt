@@ -1,7 +1,4 @@
 use Rattle.bench.proofs.Running.{event_ran, event_said}
-use Rattle.bench.specs.Bench.{run}
-use Rattle.ring.proofs.Blocks.{near}
-use Rattle.rules.specs.Account.{at}
 use Rattle.rules.specs.State.{state}
 use Rattle.bench.proofs.run.event_line.Goals as goal
 

@@ -1,8 +1,6 @@
 use Rattle.std.proofs.Common.{arith}
 use Rattle.bench.proofs.Printing.{none}
 use Rattle.bench.proofs.Running.{ring_ran, ring_refused, ring_says, ring_silent}
-use Rattle.bench.specs.Bench.{run}
-use Rattle.ring.proofs.Blocks.{near}
 use Rattle.bench.proofs.run.set_up.Goals as goal
 
 pub returns-then-k-eq0 : goal.returns-then-k-eq0

@@ -1,7 +1,6 @@
 use Rattle.std.proofs.Common.{ap, ◌∙◌}
 use Rattle.ring.proofs.OneThread.{take_left}
 use Rattle.ring.specs.OneThread.{left}
-use Rattle.rules.specs.Account.{at}
 use Rattle.rules.specs.State.{state}
 use Rattle.rules.specs.Table.{Step}
 use Rattle.ring.proofs.events.take.Goals as goal

@@ -1,6 +1,5 @@
 use Rattle.std.proofs.Common.{add-one, ap, arith, rules, ◌∙◌}
 use Rattle.rules.proofs.Memory.{cells_past}
-use Rattle.rules.specs.Account.{at}
 use Rattle.rules.specs.Cut.{mended}
 use Rattle.rules.specs.Memory.{cell_at}
 use Rattle.ring.proofs.recovery.mend_cells.Goals as goal
