@@ -83,6 +83,6 @@ setup_of R n S running kept h =
     let d = unrefused (short R n kept) 10 0 (lit< tt) b.1 in
     (range_of R n S (not-false (in_range R n S) a.0), ltb-false (length running) (size R n) b.0, ltb-false (length kept) (size R n) d.0)
 
--- an answer's number and values, from what is left and answered
-pub told : {s : State} {a : Answer} {o : Out} → out s a ≡ o → numbers a ≡ numbers o.answer
-told e = ap (λ (x : Out). numbers x.answer) e
+-- what is left as an equation, and the answer by its number and values
+pub told : {s : State} {a : Answer} {o : Out} → out s a ≡ o → (out s a ≡ o) × (numbers a ≡ numbers o.answer)
+told e = (e, ap (λ (x : Out). numbers x.answer) e)

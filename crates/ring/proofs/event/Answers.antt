@@ -5,10 +5,10 @@ use Rattle.rules.proofs.Sound.{sound_of}
 use Rattle.ring.proofs.event.Goals as goal
 
 pub returns-then-k-ne0 : goal.returns-then-k-ne0
-returns-then-k-ne0 c = let e = event-refused _ _ _ c.unsound-k.ensures c.if-k-ne0.true in record { outcome = e; answer_numbers = told e }
+returns-then-k-ne0 c = let e = told (event-refused _ _ _ c.unsound-k.ensures c.if-k-ne0.true) in record { outcome = e.0; answer_numbers = e.1 }
 
 pub any-requires : goal.any-requires
 any-requires c = sound_of _ (sym c.unsound-k.ensures ∙ c.if-k-ne0.false)
 
 pub returns : goal.returns
-returns c = let e = c.any.ensures ∙ event-inner _ _ _ c.unsound-k.ensures c.if-k-ne0.false in record { outcome = e; answer_numbers = told e }
+returns c = let e = told (c.any.ensures ∙ event-inner _ _ _ c.unsound-k.ensures c.if-k-ne0.false) in record { outcome = e.0; answer_numbers = e.1 }
