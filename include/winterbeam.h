@@ -77,7 +77,7 @@ extern "C" {
  *
  * `kept` may have any alignment. It must not be NULL, not even if `len` is 0.
  *
- * Stack: 1144 bytes, return addresses included, most of them a local array of 266 numbers. Plan
+ * Stack: 1160 bytes, return addresses included, most of them a local array of 266 numbers. Plan
  * for 1.5 KiB. Where a program binds its libraries lazily, the dynamic linker takes about 3 KiB
  * more at the first call; linked with -static or -Wl,-z,now it doesn't.
  *
