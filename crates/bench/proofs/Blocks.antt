@@ -1,31 +1,20 @@
 -- Turns of the loops over a block.
 use Prim.Native.Nat.{ℕ, suc, ◌+◌, ◌*◌, ◌-◌, ◌<◌, ◌≤◌}
-use mathlib.Core.Path.{◌≡◌, refl, sym, ◌∙◌}
+use mathlib.Core.Path.{◌≡◌, refl, ◌∙◌}
 use mathlib.Core.List.{List, [], ◌∷◌}
+use mathlib.Core.Logic.{◌⊎◌, inl, inr}
 use native.Mathlib.Numerals.{add-one}
 use native.Mathlib.Omega.{arith}
 use lib.ListN.{length, drop, get_or, take, drop_of_length-le}
 use lib.Seq.{sets, drop-cons}
 use mathlib.Core.Bool.{Bool, true, false, cond}
-use lib.Dec.{eqb, leb}
-use borrow.Author.Tests.{le-leb, lt-leb, leb-true, leb-false, eq-eqb, ne_eqb}
+use lib.Dec.{eqb}
+use borrow.Author.Tests.{eq-eqb, ne_eqb}
 use Rattle.bench.specs.Bench.{Run, ran_line, line_says, end_says}
 use Rattle.bench.specs.Block.{keep_carry, keep_len, scan_of, has_room, line_room, Poured, poured, pour, finished}
 use Rattle.bench.specs.Print.{Wrote}
 use Rattle.bench.specs.Stream.{last_ran, last_says, finish_says}
 use Rattle.bench.proofs.Printing.{then}
-
-pub scan_more : (s c after : List ℕ) (n next i : ℕ) → i < length s → (get_or s i 0 ≡ 10 → ⊥)
-    → next ≡ keep_len n → after ≡ keep_carry c n (get_or s i 0)
-    → scan_of c n i (drop i s) ≡ scan_of after next (i + 1) (drop (i + 1) s)
-scan_more s c after n next i h x e f = rw (e, f, add-one i, drop-cons s i 0, ne_eqb _ _ x, add-one i)
-
-pub scan_stop : (s c : List ℕ) (n i : ℕ) → i < length s → get_or s i 0 ≡ 10
-    → scan_of c n i (drop i s) ≡ record { carry = c; len = n; next = i; rest = drop i s }
-scan_stop s c n i h x = rw (drop-cons s i 0, eq-eqb _ _ x)
-
-pub scan_end : (s c : List ℕ) (n i : ℕ) → length s ≤ i → scan_of c n i (drop i s) ≡ record { carry = c; len = n; next = i; rest = drop i s }
-scan_end s c n i h = rw (drop_of_length-le s h)
 
 -- inside a run, a scan goes ahead
 ahead : ℕ → Run → List ℕ → ℕ → ℕ → List ℕ → List ℕ → ℕ → Type 0
@@ -51,29 +40,17 @@ pub run_scan : (m : ℕ) (g : Run) (c after : List ℕ) (n i len next : ℕ) (s 
 unfolding ahead
 run_scan m g c after n i len next s out at e = run-ahead m g c n i (drop i s) out at ∙ rw (← e)
 
-pub run_end : (m : ℕ) (g : Run) (c : List ℕ) (n i : ℕ) (s out : List ℕ) (at : ℕ) → length s ≤ i
-    → pour m g c n i (drop i s) out at ≡ poured g c n i out at
-run_end m g c n i s out at h = rw (drop_of_length-le s h)
+-- at the block's end, and at a newline where no line may be run any more
+pub run_stop : (m : ℕ) (g : Run) (c : List ℕ) (n i : ℕ) (s out : List ℕ) (at : ℕ) → (i < length s → get_or s i 0 ≡ 10)
+    → length s ≤ i ⊎ (i < length s × m ≡ 0) → pour m g c n i (drop i s) out at ≡ poured g c n i out at
+run_stop m g c n i s out at x (inl h) = rw (drop_of_length-le s h)
+run_stop m g c n i s out at x (inr (h, z)) = rw (drop-cons s i 0, eq-eqb _ _ (x h), eq-eqb m 0 z)
 
-pub run-full : (m : ℕ) (g : Run) (c : List ℕ) (n i : ℕ) (s out : List ℕ) (at : ℕ) → i < length s → get_or s i 0 ≡ 10 → m ≡ 0
-    → pour m g c n i (drop i s) out at ≡ poured g c n i out at
-run-full m g c n i s out at h x z = rw (drop-cons s i 0, eq-eqb _ _ x, eq-eqb m 0 z)
-
-pub run_line : (m : ℕ) (g h : Run) (c : List ℕ) (n i : ℕ) (s out after : List ℕ) (at next : ℕ) → i < length s → get_or s i 0 ≡ 10 → (m ≡ 0 → ⊥)
-    → h ≡ ran_line g (take n c) → next ≡ at + length (line_says g (take n c)) → after ≡ sets out at (line_says g (take n c))
+pub run_line : (m : ℕ) (g h : Run) (c line : List ℕ) (n i : ℕ) (s out after : List ℕ) (at next : ℕ) → i < length s → get_or s i 0 ≡ 10 → (m ≡ 0 → ⊥)
+    → line ≡ take n c → h ≡ ran_line g line → next ≡ at + length (line_says g line) → after ≡ sets out at (line_says g line)
     → pour m g c n i (drop i s) out at ≡ pour (m - 1) h c 0 (i + 1) (drop (i + 1) s) after next
-run_line m g h c n i s out after at next l x z e p w =
-    rw (add-one i, drop-cons s i 0, eq-eqb _ _ x, ne_eqb m 0 z, ← e, ← p, ← w, add-one i)
-
-room_by : (t : Bool) (need at n : ℕ) → need ≤ n → leb at (n - need) ≡ t → t ≡ leb (at + need) n
-room_by true need at n h e = let w = leb-true at (n - need) e in sym (le-leb (at + need) n (omega arith))
-room_by false need at n h e = let w = leb-false at (n - need) e in sym (lt-leb (at + need) n (omega arith))
-
-pub room : (need at n : ℕ) → need ≤ n → leb at (n - need) ≡ leb (at + need) n
-room need at n h = room_by (leb at (n - need)) need at n h refl
-
-pub no_room : (need at n : ℕ) → n < need → false ≡ leb (at + need) n
-no_room need at n h = sym (lt-leb (at + need) n (omega arith))
+run_line m g h c line n i s out after at next l x z q e p w =
+    rw (add-one i, drop-cons s i 0, eq-eqb _ _ x, ne_eqb m 0 z, ← q, ← e, ← p, ← w, add-one i)
 
 -- a run goes on, and with room for a line by a byte at least
 far_pick : (t u : Bool) (i : ℕ) (x y z : Poured) → i ≤ x.next → i ≤ y.next → i ≤ z.next → i ≤ (cond t (cond u x y) z).next
@@ -109,10 +86,8 @@ pub progress : (r : Poured) (s : List ℕ) (g : Run) (c : List ℕ) (n i : ℕ) 
     → r ≡ pour (line_room out at) g c n i (drop i s) out at → i < length s → at + 2048 ≤ length out → i < r.next
 progress r s g c n i out at e h k = let p = run-progress s (line_room out at) g c n i out at h (some_room out at k) in rw e (omega arith)
 
-pub whole : (r : Poured) (s : List ℕ) (g : Run) (c : List ℕ) (n i : ℕ) (out : List ℕ) (at : ℕ)
-    → pour (line_room out at) g c n i (drop i s) out at ≡ r → (at ≤ length out → r.at ≤ length r.out)
-    → (r ≡ pour (line_room out at) g c n i (drop i s) out at) × ((at ≤ length out → r.at ≤ length r.out) × (i < length s → at + 2048 ≤ length out → i < r.next))
-whole r s g c n i out at e f = (sym e, (f, progress r s g c n i out at (sym e)))
+pub stopped : (a : Run) (c : List ℕ) (n i : ℕ) (out o : List ℕ) (at : ℕ) (p : Poured) → p ≡ poured a c n i out at → o ≡ out → poured a c n i o at ≡ p
+stopped a c n i out o at p e f = rw (e, f)
 
 -- the room for the lines that are left, before and after a line
 pub room-start : (out : List ℕ) (at : ℕ) → at + 2048 * line_room out at ≤ length out + (at - length out)
@@ -123,9 +98,6 @@ module _ (at p m n q k o : ℕ) (from : at ≤ p) (room : p + 2048 * m ≤ n + (
   pub room_within : at ≤ n → q ≤ o
   room_within h = omega arith
 
-  pub room_line : (k ≡ 0 → ⊥) → q + 2048 ≤ o
-  room_line z = omega arith
-
   pub room_next : (r : ℕ) → (k ≡ 0 → ⊥) → r ≤ q + 2048 → r + 2048 * (k - 1) ≤ n + (at - n)
   room_next r z h = omega arith
 
@@ -135,17 +107,7 @@ pub end_full : (r : Run) (c : List ℕ) (n : ℕ) (out : List ℕ) (at : ℕ) �
 unfolding finished
 end_full r c n out at h = rw h
 
-pub end_said : (r a : Run) (c : List ℕ) (n at p q : ℕ) (out m o : List ℕ) → has_room 4096 out at ≡ true → a ≡ last_ran r (take n c) n
-    → Wrote out at (last_says r (take n c) n) m p → Wrote m p (end_says a) o q → record { run = a; out = o; at = q } ≡ finished r c n out at
+pub end_said : (r a : Run) (c : List ℕ) (n at p q : ℕ) (out m o left : List ℕ) → has_room 4096 out at ≡ true → a ≡ last_ran r (take n c) n
+    → Wrote out at (last_says r (take n c) n) m p → Wrote m p (end_says a) o q → left ≡ o → record { run = a; out = left; at = q } ≡ finished r c n out at
 unfolding finished finish_says
-end_said r a c n at p q out m o h e f g = let w = then f g in rw (h, ← e, ← w.bytes, ← w.place)
-
--- where the last line and the event count end
-pub end_near : (at p q n m o : ℕ) → at + 4096 ≤ n → p ≤ at + 2048 → q ≤ p + 256 → m ≡ n → o ≡ m → q ≤ o
-end_near at p q n m o h k l e f = omega arith
-
-pub end_room : (at p n m : ℕ) → at + 4096 ≤ n → p ≤ at + 2048 → m ≡ n → p + 256 ≤ m
-end_room at p n m h k e = omega arith
-
-pub last-room : (at n : ℕ) → at + 4096 ≤ n → at + 2048 ≤ n
-last-room at n h = omega arith
+end_said r a c n at p q out m o left h e f g z = let w = then f g in rw (h, ← e, ← w.bytes, ← w.place, z)

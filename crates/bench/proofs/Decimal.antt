@@ -8,6 +8,8 @@ use native.Mathlib.Omega.{arith}
 use lib.ListN.{length, length-append}
 use lib.Dec.{ltb, lit<}
 use borrow.Author.Tests.{lt-ltb, le-ltb, ltb-false}
+use Rattle.std.proofs.lemmas.Fmt.{decimal_by_steps}
+use Rattle.std.specs.Fmt.{decimal as std_decimal}
 use Rattle.bench.specs.Decimal.{decimal_in, decimal, value, HasItsValue}
 
 -- the last digit, and the number without it
@@ -76,3 +78,20 @@ value_in (suc f) n h = value_by (ltb n 10) f n refl (λ k. value_in f (n / 10) (
 pub has_its_value : HasItsValue
 unfolding decimal
 has_its_value n h = value_in 20 n (let p : n < 100000000000000000000 = omega arith in p)
+
+-- it is what std prints of a number
+InAnyRoom : ℕ → List ℕ → Type 0
+InAnyRoom n ds = (f : ℕ) → n < 10 ^ suc f → decimal_in (suc f) n ≡ ds
+
+one_digit : (n : ℕ) → n < 10 → InAnyRoom n ((48 + n) ∷ [])
+unfolding InAnyRoom
+one_digit n h f q = rw (lt-ltb n 10 h)
+
+more_digits : (n : ℕ) (ds : List ℕ) → 10 ≤ n → InAnyRoom (n / 10) ds → InAnyRoom n (ds ++ ((48 + n % 10) ∷ []))
+unfolding InAnyRoom
+more_digits n ds h a zero q = absurd (omega (arith, pow-suc 10 0, pow-zero 10))
+more_digits n ds h a (suc f) q = rw (le-ltb n 10 h, a f (tenth (suc f) n q))
+
+pub as_std : (n : ℕ) → n < 2 ^ 64 → decimal n ≡ std_decimal n
+unfolding decimal InAnyRoom
+as_std n h = decimal_by_steps InAnyRoom one_digit more_digits n h 19 (omega arith)

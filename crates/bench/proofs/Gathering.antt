@@ -10,16 +10,16 @@ use lib.Seq.{sets}
 use Rattle.rules.specs.declared.Line.TheVariants as line
 use Rattle.rules.specs.declared.Event.TheVariants as event
 use Rattle.rules.specs.Block.{is_kind, event_of, runs, event_runs}
+use Rattle.std.specs.Prelude.{Option, Some, None}
 use Rattle.bench.specs.declared.read.Command.{Command}
-use Rattle.bench.specs.declared.read.Command.TheVariants.{Ring, Event as EventOf, NotUnderstood}
+use Rattle.bench.specs.declared.read.Command.TheVariants.{Ring, Event as EventOf}
 use Rattle.bench.specs.declared.Phase.{Phase}
 use Rattle.bench.specs.declared.Phase.TheVariants.{First, Running, Ended}
-use Rattle.bench.specs.declared.gather.Three.{Three}
 use Rattle.bench.specs.Read.{line_of}
 use Rattle.bench.specs.Print.{said_text}
 use Rattle.bench.specs.Bench.{Run, ran_in, says_in, event_says, next_line, ran_line, line_says}
 use Rattle.bench.specs.Block.{scan_of, pour}
-use Rattle.bench.specs.Gather.{list, three_of, most_of, Told, tells, told_to, Gathers}
+use Rattle.bench.specs.Gather.{three_of, most_of, Told, tells, told_to, Gathers}
 use Rattle.bench.proofs.Printing.{sets-append}
 use Rattle.bench.proofs.Stored.{before, within, Same}
 use Rattle.bench.proofs.Blocks.{run_scan, run_line}
@@ -43,42 +43,45 @@ told_phase r block zero = refl
 told_phase r block (suc k) = told_phase r block k
 
 -- ---- a line that is gathered runs as its event does
-abbrev Tells : Told → List ℕ → ℕ → Command → Type 0
+-- the numbers are event k of a block
+Stands : List ℕ → ℕ → Option (List ℕ) → Type 0
+Stands block k None = ⊥
+Stands block k (Some t) =
+    (get_or block (3 * k) 0 ≡ get_or t 0 0) × ((get_or block (3 * k + 1) 0 ≡ get_or t 1 0) × (get_or block (3 * k + 2) 0 ≡ get_or t 2 0))
+
+abbrev Tells : Told → List ℕ → ℕ → Option Command → Type 0
 Tells u block k c =
-    u.run.phase ≡ Running → ((three_of c).kind ≡ 7 → ⊥)
-    → get_or block (3 * k) 0 ≡ (three_of c).kind → get_or block (3 * k + 1) 0 ≡ (three_of c).place → get_or block (3 * k + 2) 0 ≡ (three_of c).item
+    u.run.phase ≡ Running → Stands block k (three_of c)
     → tells u block k ≡ record {
       run = ran_in u.run.phase (next_line u.run.lines) u.run.state c;
       text = u.text ++ says_in u.run.phase (next_line u.run.lines) u.run.state c;
     }
 
-tells_by : (u : Told) (block : List ℕ) (k : ℕ) (c : Command) → Tells u block k c
-unfolding tells event_runs runs is_kind event_of event_says said_text
-tells_by u block k (Ring R n S) p z e f g = rw (p, e)
-tells_by u block k NotUnderstood p z e f g = rw (p, e)
-tells_by u block k (EventOf (event.Put i x)) p z e f g = rw (p, e, f, g)
-tells_by u block k (EventOf (event.Take i)) p z e f g = rw (p, e, f)
-tells_by u block k (EventOf (event.Go i)) p z e f g = rw (p, e, f)
-tells_by u block k (EventOf (event.Back line.None)) p z e f g = absurd (z refl)
-tells_by u block k (EventOf (event.Back (line.Cell j))) p z e f g = rw (p, e, f)
-tells_by u block k (EventOf (event.Back (line.Copy j))) p z e f g = rw (p, e, f)
-tells_by u block k (EventOf (event.Back line.Tail)) p z e f g = rw (p, e)
-tells_by u block k (EventOf event.Cut) p z e f g = absurd (z refl)
+tells_by : (u : Told) (block : List ℕ) (k : ℕ) (c : Option Command) → Tells u block k c
+unfolding Stands tells event_runs runs is_kind event_of event_says said_text
+tells_by u block k (Some (Ring R n S)) p s = rw (p, s.0)
+tells_by u block k None p s = rw (p, s.0)
+tells_by u block k (Some (EventOf (event.Put i x))) p s = rw (p, s.0, s.1.0, s.1.1)
+tells_by u block k (Some (EventOf (event.Take i))) p s = rw (p, s.0, s.1.0)
+tells_by u block k (Some (EventOf (event.Go i))) p s = rw (p, s.0, s.1.0)
+tells_by u block k (Some (EventOf (event.Back line.None))) p s = absurd s
+tells_by u block k (Some (EventOf (event.Back (line.Cell j)))) p s = rw (p, s.0, s.1.0)
+tells_by u block k (Some (EventOf (event.Back (line.Copy j)))) p s = rw (p, s.0, s.1.0)
+tells_by u block k (Some (EventOf (event.Back line.Tail))) p s = rw (p, s.0)
+tells_by u block k (Some (EventOf event.Cut)) p s = absurd s
 
 -- one line more, whose numbers were stored after those of k
-told_line : (r : Run) (block more l : List ℕ) (k : ℕ) (t : Three) → r.phase ≡ Running → t ≡ three_of (line_of l) → (t.kind ≡ 7 → ⊥)
-    → 3 * k + 3 ≤ length block → more ≡ sets block (3 * k) (list t)
+told_line : (r : Run) (block more l t : List ℕ) (k : ℕ) → r.phase ≡ Running → three_of (line_of l) ≡ Some t → length t ≡ 3
+    → 3 * k + 3 ≤ length block → more ≡ sets block (3 * k) t
     → (let u = told_to r block k in told_to r more (suc k) ≡ record { run = ran_line u.run l; text = u.text ++ line_says u.run l })
-unfolding ran_line line_says list
-told_line r block more l k t p e z h q =
+unfolding Stands ran_line line_says
+told_line r block more l t k p z n h q =
     let u = told_to r block k in
-    let w : (j : ℕ) → j < 3 → get_or more (3 * k + j) 0 ≡ get_or (list t) j 0 = λ j b. ap (λ (x : List ℕ). get_or x (3 * k + j) 0) q ∙ within block (3 * k) (list t) j h b in
+    let w : (j : ℕ) → j < 3 → get_or more (3 * k + j) 0 ≡ get_or t j 0 = λ j b. ap (λ (x : List ℕ). get_or x (3 * k + j) 0) q ∙ within block (3 * k) t j (omega arith) (omega arith) in
     ap (λ (x : Told). tells x more k)
-    (told_same r more block k (λ j b. ap (λ (x : List ℕ). get_or x j 0) q ∙ before block (3 * k) (list t) j b))
-    ∙ tells_by u more k (line_of l) (told_phase r block k ∙ p) (λ y. z (ap (λ (x : Three). x.kind) e ∙ y))
-    (ap (λ (x : ℕ). get_or more x 0) (sym (add-zero (3 * k))) ∙ w 0 (omega arith) ∙ ap (λ (x : Three). x.kind) e)
-    (w 1 (omega arith) ∙ ap (λ (x : Three). x.place) e)
-    (w 2 (omega arith) ∙ ap (λ (x : Three). x.item) e)
+    (told_same r more block k (λ j b. ap (λ (x : List ℕ). get_or x j 0) q ∙ before block (3 * k) t j b))
+    ∙ tells_by u more k (line_of l) (told_phase r block k ∙ p)
+    (rw z (ap (λ (x : ℕ). get_or more x 0) (sym (add-zero (3 * k))) ∙ w 0 (omega arith), (w 1 (omega arith), w 2 (omega arith))))
 
 -- what was said before a line, and the line's own text
 after_line : (m k : ℕ) (a b : Run) (c : List ℕ) (n i : ℕ) (s out x y z : List ℕ) (at : ℕ) → a ≡ b → z ≡ x ++ y
@@ -103,17 +106,17 @@ module _ (c : List ℕ) (n i : ℕ) (s : List ℕ) (most : ℕ) where
       let t = told_to r block k in
       g m r out at h p ∙ run_scan (m - k) t.run b after len next d e s (sets out at t.text) (at + length t.text) q
 
-  pub gather_line : (block more after : List ℕ) (len next k : ℕ) (t : Three) → Gathers c n i s most block after len next k
-      → next < length s → get_or s next 0 ≡ 10 → k < most → 3 * most ≤ length block → t ≡ three_of (line_of (take len after)) → (t.kind ≡ 7 → ⊥)
-      → more ≡ sets block (3 * k) (list t) → Gathers c n i s most more after 0 (next + 1) (k + 1)
+  pub gather_line : (block more after t : List ℕ) (len next k : ℕ) → Gathers c n i s most block after len next k
+      → next < length s → get_or s next 0 ≡ 10 → k < most → 3 * most ≤ length block → three_of (line_of (take len after)) ≡ Some t → length t ≡ 3
+      → more ≡ sets block (3 * k) t → Gathers c n i s most more after 0 (next + 1) (k + 1)
   unfolding Gathers
-  gather_line block more after len next k t g l x b w e z q m r out at h p =
+  gather_line block more after t len next k g l x b w e z q m r out at h p =
       let u = told_to r block k in
       let v : told_to r more (suc k) ≡ record { run = ran_line u.run (take len after); text = u.text ++ line_says u.run (take len after) } =
-      told_line r block more (take len after) k t (p (omega arith)) e z (omega arith) q in
+      told_line r block more (take len after) t k (p (omega arith)) e z (omega arith) q in
       rw (add-one k)
       (g m r out at h p
-      ∙ run_line (m - k) u.run _ after len next s (sets out at u.text) _ (at + length u.text) _ l x (λ y. omega arith) refl refl refl
+      ∙ run_line (m - k) u.run _ after _ len next s (sets out at u.text) _ (at + length u.text) _ l x (λ y. omega arith) refl refl refl refl
       ∙ after_line m k _ _ after 0 (next + 1) (drop (next + 1) s) out u.text (line_says u.run (take len after)) _ at
       (ap (λ (y : Told). y.run) v) (ap (λ (y : Told). y.text) v))
 

@@ -2,163 +2,144 @@
 use Prim.Native.Nat.{ℕ, zero, suc, ◌+◌, ◌*◌, ◌-◌, ◌/◌, ◌%◌, ◌^◌, ◌<◌, ◌≤◌}
 use mathlib.Core.Path.{◌≡◌, refl, ap, sym, ◌∙◌}
 use mathlib.Core.List.{List, [], ◌∷◌, ◌++◌}
-use mathlib.Core.Bool.{Bool, true, false, cond}
+use mathlib.Core.Bool.{Bool, true, false, cond, ◌&&◌}
 use native.Mathlib.Nat.{pow-zero, div-add-mod', mod-lt}
 use native.Mathlib.Omega.{arith}
-use lib.ListN.{length, drop, get_or, length-append}
-use lib.Seq.{drop-drop, drop_at, append_snoc}
+use lib.ListN.{get_or}
+use lib.Seq.{append_snoc}
 use lib.Dec.{eqb, leb, ltb, lit<}
-use borrow.Author.Tests.{le-leb, ne_eqb, le-ltb, leb-true, eqb-true, eqb-false, ltb-true, ltb-false}
-use Rattle.bench.specs.declared.read.Number.TheVariants.{At, Not}
-use Rattle.bench.specs.Read.{digit_of, largest, number_from, number, after_space}
+use borrow.Author.Tests.{le-leb, ne_eqb, leb-true, eqb-true, eqb-false, ltb-true, ltb-false}
+use Rattle.std.specs.Prelude.{Option, Some, None}
+use Rattle.std.proofs.lemmas.Option.{none-some, some_pair_parts}
+use Rattle.bench.specs.Read.{is_digit, largest, number_from, number, after_space}
 use Rattle.bench.specs.Decimal.{decimal_in, decimal, spaced}
 use Rattle.bench.proofs.Decimal.{tenth, decimal-more, decimal_one}
 
 -- ---- a digit is its byte less 48
-digit_by : (t u : Bool) (b : ℕ) → ltb b 48 ≡ t → leb b 57 ≡ u → leb (cond t 10 (cond u (b - 48) 10)) 9 ≡ true → b ≡ 48 + cond t 10 (cond u (b - 48) 10)
-digit_by true u b e f h = let z = leb-true 10 9 h in absurd (omega arith)
-digit_by false true b e f h = let z = ltb-false b 48 e in omega arith
-digit_by false false b e f h = let z = leb-true 10 9 h in absurd (omega arith)
+range_by : (t u : Bool) (b : ℕ) → leb 48 b ≡ t → leb b 57 ≡ u → (t && u) ≡ true → (48 ≤ b) × (b ≤ 57)
+range_by true true b e f h = (leb-true 48 b e, leb-true b 57 f)
+range_by true false b e f h = cc
+range_by false u b e f h = cc
 
-digit_byte : (b : ℕ) → leb (digit_of b) 9 ≡ true → b ≡ 48 + digit_of b
-unfolding digit_of
-digit_byte b h = digit_by (ltb b 48) (leb b 57) b refl refl h
+digit_range : (b : ℕ) → is_digit b ≡ true → (48 ≤ b) × (b ≤ 57)
+digit_range b h = range_by (leb 48 b) (leb b 57) b refl refl h
 
-byte_digit : (d : ℕ) → d ≤ 9 → digit_of (48 + d) ≡ d
-unfolding digit_of
-byte_digit d h = rw (le-ltb (48 + d) 48 (omega arith), le-leb (48 + d) 57 (omega arith)) (omega arith)
+digit_byte : (b : ℕ) → is_digit b ≡ true → b ≡ 48 + (b - 48)
+digit_byte b h = let r = digit_range b h in omega arith
 
--- ---- what is read as a number is its decimal text; s is the line, and l what is left of it at place i
-rest_of : (s l : List ℕ) (b i : ℕ) → b ∷ l ≡ drop i s → l ≡ drop (i + 1) s
-rest_of s l b i e = ap (λ (x : List ℕ). drop 1 x) e ∙ drop-drop 1 i s
+byte_digit : (d : ℕ) → d ≤ 9 → is_digit (48 + d) ≡ true
+byte_digit d h = rw (le-leb 48 (48 + d) (omega arith), le-leb (48 + d) 57 (omega arith))
 
-abbrev Left : List ℕ → List ℕ → ℕ → ℕ → Type 0
-Left s t w j = (t ≡ decimal w ++ drop j s) × (w ≤ largest)
+byte_less : (d : ℕ) → 48 + d - 48 ≡ d
+byte_less d = omega arith
 
-from_end : (s l : List ℕ) (v i w j : ℕ) → l ≡ drop i s → v ≤ largest → At v i ≡ At w j → Left s (decimal v ++ l) w j
-from_end s l v i w j e h q =
-    let a : v ≡ w = cc in
-    let b : i ≡ j = cc in
-    (ap (λ (x : List ℕ). decimal v ++ x) e ∙ rw (a, b), rw (← a) h)
+-- ---- what is read as a number is its decimal text
+abbrev Is : List ℕ → ℕ → List ℕ → Type 0
+Is t w r = (t ≡ decimal w ++ r) × (w ≤ largest)
 
-from_by : (t u : Bool) (b : ℕ) (l s : List ℕ) (v i w j : ℕ) → leb (digit_of b) 9 ≡ t → leb (v * 10 + digit_of b) largest ≡ u
-    → b ∷ l ≡ drop i s → 1 ≤ v → v ≤ largest
-    → ((x : ℕ) → 1 ≤ x → x ≤ largest → number_from x (i + 1) l ≡ At w j → Left s (decimal x ++ l) w j)
-    → cond t (cond u (number_from (v * 10 + digit_of b) (i + 1) l) Not) (At v i) ≡ At w j → Left s (decimal v ++ b ∷ l) w j
-from_by true true b l s v i w j e f q o h step r =
-    let k = leb-true (digit_of b) 9 e in
-    let m = leb-true (v * 10 + digit_of b) largest f in
-    let a = step (v * 10 + digit_of b) (omega arith) m r in
-    let z : decimal v ++ b ∷ l ≡ decimal (v * 10 + digit_of b) ++ l =
-    ap (λ (x : ℕ). decimal v ++ x ∷ l) (digit_byte b e) ∙ sym (append_snoc (decimal v) (48 + digit_of b) l)
-    ∙ ap (λ (x : List ℕ). x ++ l) (sym (decimal-more v (digit_of b) o k m)) in
+from_end : (l r : List ℕ) (v w : ℕ) → v ≤ largest → ◌≡◌ {A = Option (ℕ × List ℕ)} (Some (v, l)) (Some (w, r)) → Is (decimal v ++ l) w r
+from_end l r v w h q = let p = some_pair_parts v w l r q in (rw (p.0, p.1), rw (p.0) at h)
+
+from_by : (t u : Bool) (b : ℕ) (l r : List ℕ) (v w : ℕ) → is_digit b ≡ t → leb (v * 10 + (b - 48)) largest ≡ u → 1 ≤ v → v ≤ largest
+    → ((x : ℕ) → 1 ≤ x → x ≤ largest → number_from x l ≡ Some (w, r) → Is (decimal x ++ l) w r)
+    → cond t (cond u (number_from (v * 10 + (b - 48)) l) None) (Some (v, b ∷ l)) ≡ Some (w, r) → Is (decimal v ++ b ∷ l) w r
+from_by true true b l r v w e f o h step q =
+    let d = b - 48 in
+    let g = digit_range b e in
+    let m = leb-true (v * 10 + (b - 48)) largest f in
+    let a = step (v * 10 + (b - 48)) (omega arith) m q in
+    let z : decimal v ++ b ∷ l ≡ decimal (v * 10 + (b - 48)) ++ l =
+    ap (λ (x : ℕ). decimal v ++ x ∷ l) (digit_byte b e) ∙ sym (append_snoc (decimal v) (48 + d) l)
+    ∙ ap (λ (x : List ℕ). x ++ l) (sym (decimal-more v (b - 48) o (omega arith) m)) in
     (z ∙ a.0, a.1)
-from_by true false b l s v i w j e f q o h step r = let z : ◌≡◌ {A = ℕ} 0 1 = cc in absurd (omega arith)
-from_by false u b l s v i w j e f q o h step r = from_end s (b ∷ l) v i w j q h r
+from_by true false b l r v w e f o h step q = absurd (none-some _ q)
+from_by false u b l r v w e f o h step q = from_end (b ∷ l) r v w h q
 
-from_sound : (l s : List ℕ) (v i w j : ℕ) → l ≡ drop i s → 1 ≤ v → v ≤ largest → number_from v i l ≡ At w j → Left s (decimal v ++ l) w j
-from_sound [] s v i w j q o h r = from_end s [] v i w j q h r
-from_sound (b ∷ l) s v i w j q o h r =
-    from_by (leb (digit_of b) 9) (leb (v * 10 + digit_of b) largest) b l s v i w j refl refl q o h
-    (λ x k m z. from_sound l s x (i + 1) w j (rest_of s l b i q) k m z) r
+from_sound : (l r : List ℕ) (v w : ℕ) → 1 ≤ v → v ≤ largest → number_from v l ≡ Some (w, r) → Is (decimal v ++ l) w r
+from_sound [] r v w o h q = from_end [] r v w h q
+from_sound (b ∷ l) r v w o h q =
+    from_by (is_digit b) (leb (v * 10 + (b - 48)) largest) b l r v w refl refl o h (λ x k m z. from_sound l r x w k m z) q
 
-number_by : (t u x : Bool) (b : ℕ) (l s : List ℕ) (i w j : ℕ) → leb (digit_of b) 9 ≡ t → eqb (digit_of b) 0 ≡ u → b ∷ l ≡ drop i s
-    → cond t (cond u (cond x Not (At 0 (i + 1))) (number_from (digit_of b) (i + 1) l)) Not ≡ At w j → Left s (b ∷ l) w j
+number_by : (t u x : Bool) (b : ℕ) (l r : List ℕ) (w : ℕ) → is_digit b ≡ t → eqb b 48 ≡ u
+    → cond t (cond u (cond x None (Some (0, l))) (number_from (b - 48) l)) None ≡ Some (w, r) → Is (b ∷ l) w r
 unfolding decimal
-number_by false u x b l s i w j e f q r = let z : ◌≡◌ {A = ℕ} 0 1 = cc in absurd (omega arith)
-number_by true true true b l s i w j e f q r = let z : ◌≡◌ {A = ℕ} 0 1 = cc in absurd (omega arith)
-number_by true true false b l s i w j e f q r =
-    let a : 0 ≡ w = cc in
-    let c : i + 1 ≡ j = cc in
-    let d : b ≡ 48 = digit_byte b e ∙ ap (λ (y : ℕ). 48 + y) (eqb-true (digit_of b) 0 f) in
-    (rw (← a, ← c, d) (ap (λ (y : List ℕ). 48 ∷ y) (rest_of s l b i q)), omega arith)
-number_by true false x b l s i w j e f q r =
-    let k = leb-true (digit_of b) 9 e in
-    let n = eqb-false (digit_of b) 0 f in
-    let o : 1 ≤ digit_of b = omega arith in
-    let a = from_sound l s (digit_of b) (i + 1) w j (rest_of s l b i q) o (omega arith) r in
-    let z : b ∷ l ≡ decimal (digit_of b) ++ l =
-    ap (λ (y : ℕ). y ∷ l) (digit_byte b e) ∙ ap (λ (y : List ℕ). y ++ l) (sym (decimal_one (digit_of b) k)) in
+number_by false u x b l r w e f q = absurd (none-some _ q)
+number_by true true true b l r w e f q = absurd (none-some _ q)
+number_by true true false b l r w e f q =
+    let p = some_pair_parts 0 w l r q in
+    (rw (eqb-true b 48 f, ← p.0, p.1), rw (p.0) at (let z : 0 ≤ largest = omega arith in z))
+number_by true false x b l r w e f q =
+    let g = digit_range b e in
+    let n = eqb-false b 48 f in
+    let k : b - 48 ≤ 9 = omega arith in
+    let a = from_sound l r (b - 48) w (omega arith) (omega arith) q in
+    let z : b ∷ l ≡ decimal (b - 48) ++ l =
+    ap (λ (y : ℕ). y ∷ l) (digit_byte b e) ∙ ap (λ (y : List ℕ). y ++ l) (sym (decimal_one (b - 48) k)) in
     (z ∙ a.0, a.1)
 
-number_sound : (l s : List ℕ) (i w j : ℕ) → l ≡ drop i s → number i l ≡ At w j → Left s l w j
+number_sound : (l r : List ℕ) (w : ℕ) → number l ≡ Some (w, r) → Is l w r
 unfolding number
-number_sound [] s i w j q r = let z : ◌≡◌ {A = ℕ} 0 1 = cc in absurd (omega arith)
-number_sound (b ∷ l) s i w j q r = number_by (leb (digit_of b) 9) (eqb (digit_of b) 0) (leb (digit_of (get_or l 0 0)) 9) b l s i w j refl refl q r
+number_sound [] r w q = absurd (none-some _ q)
+number_sound (b ∷ l) r w q = number_by (is_digit b) (eqb b 48) (is_digit (get_or l 0 0)) b l r w refl refl q
 
-space_by : (t : Bool) (b : ℕ) (l s : List ℕ) (i w j : ℕ) → eqb b 32 ≡ t → b ∷ l ≡ drop i s → cond t (number (i + 1) l) Not ≡ At w j
-    → (b ∷ l ≡ 32 ∷ (decimal w ++ drop j s)) × (w ≤ largest)
-space_by false b l s i w j e q r = let z : ◌≡◌ {A = ℕ} 0 1 = cc in absurd (omega arith)
-space_by true b l s i w j e q r =
-    let a = number_sound l s (i + 1) w j (rest_of s l b i q) r in
+space_by : (t : Bool) (b : ℕ) (l r : List ℕ) (w : ℕ) → eqb b 32 ≡ t → cond t (number l) None ≡ Some (w, r)
+    → (b ∷ l ≡ 32 ∷ (decimal w ++ r)) × (w ≤ largest)
+space_by false b l r w e q = absurd (none-some _ q)
+space_by true b l r w e q =
+    let a = number_sound l r w q in
     (rw (eqb-true b 32 e) (ap (λ (y : List ℕ). 32 ∷ y) a.0), a.1)
 
-pub space_sound : (l s : List ℕ) (i w j : ℕ) → l ≡ drop i s → after_space i l ≡ At w j → (l ≡ 32 ∷ (decimal w ++ drop j s)) × (w ≤ largest)
+pub space_sound : (l r : List ℕ) (w : ℕ) → after_space l ≡ Some (w, r) → (l ≡ 32 ∷ (decimal w ++ r)) × (w ≤ largest)
 unfolding after_space
-space_sound [] s i w j q r = let z : ◌≡◌ {A = ℕ} 0 1 = cc in absurd (omega arith)
-space_sound (b ∷ l) s i w j q r = space_by (eqb b 32) b l s i w j refl q r
+space_sound [] r w q = absurd (none-some _ q)
+space_sound (b ∷ l) r w q = space_by (eqb b 32) b l r w refl q
 
 -- ---- the decimal text of a number is read as that number, if no digit follows
 abbrev NoDigit : List ℕ → Type 0
-NoDigit l = leb (digit_of (get_or l 0 0)) 9 ≡ false
+NoDigit l = is_digit (get_or l 0 0) ≡ false
 
-from_next : (v d i : ℕ) (l : List ℕ) → d ≤ 9 → v * 10 + d ≤ largest → number_from v i ((48 + d) ∷ l) ≡ number_from (v * 10 + d) (i + 1) l
-from_next v d i l h m = rw (byte_digit d h, le-leb d 9 h, le-leb (v * 10 + d) largest m)
+from_next : (v d : ℕ) (l : List ℕ) → d ≤ 9 → v * 10 + d ≤ largest → number_from v ((48 + d) ∷ l) ≡ number_from (v * 10 + d) l
+from_next v d l h m = rw (byte_digit d h, byte_less d, le-leb (v * 10 + d) largest m)
 
-digits_by : (t : Bool) (f n i : ℕ) (l : List ℕ) → ltb n 10 ≡ t → 1 ≤ n → n ≤ largest
-    → (10 ≤ n → (x : List ℕ) → number i (decimal_in f (n / 10) ++ x) ≡ number_from (n / 10) (i + length (decimal_in f (n / 10))) x)
-    → (let ds : List ℕ = cond t ((48 + n) ∷ []) (decimal_in f (n / 10) ++ ((48 + n % 10) ∷ [])) in number i (ds ++ l) ≡ number_from n (i + length ds) l)
+digits_by : (t : Bool) (f n : ℕ) (l : List ℕ) → ltb n 10 ≡ t → 1 ≤ n → n ≤ largest
+    → (10 ≤ n → (x : List ℕ) → number (decimal_in f (n / 10) ++ x) ≡ number_from (n / 10) x)
+    → number (cond t ((48 + n) ∷ []) (decimal_in f (n / 10) ++ ((48 + n % 10) ∷ [])) ++ l) ≡ number_from n l
 unfolding number
-digits_by true f n i l e o m step =
+digits_by true f n l e o m step =
     let h = ltb-true n 10 e in
-    rw (byte_digit n (omega arith), le-leb n 9 (omega arith), ne_eqb n 0 (λ z. omega arith))
-digits_by false f n i l e o m step =
+    rw (byte_digit n (omega arith), ne_eqb (48 + n) 48 (λ z. omega arith), byte_less n)
+digits_by false f n l e o m step =
     let h = ltb-false n 10 e in
-    let ds = decimal_in f (n / 10) in
     let d = n % 10 in
     let q : n / 10 * 10 + n % 10 ≡ n = div-add-mod' n 10 in
     let k : n % 10 < 10 = mod-lt n {m = 10} (lit< tt) in
-    let z : i + length (ds ++ ((48 + d) ∷ [])) ≡ i + length ds + 1 = omega (arith, length-append ds ((48 + d) ∷ [])) in
-    ap (λ (x : List ℕ). number i x) (append_snoc ds (48 + d) l)
+    ap (λ (x : List ℕ). number x) (append_snoc (decimal_in f (n / 10)) (48 + d) l)
     ∙ step h ((48 + d) ∷ l)
-    ∙ from_next (n / 10) d (i + length ds) l (omega arith) (omega arith)
-    ∙ rw (z, q)
+    ∙ from_next (n / 10) d l (omega arith) (omega arith)
+    ∙ rw q
 
-digits_read : (f n i : ℕ) (l : List ℕ) → 1 ≤ n → n ≤ largest → n < 10 ^ f → number i (decimal_in f n ++ l) ≡ number_from n (i + length (decimal_in f n)) l
-digits_read zero n i l o m h = let q = pow-zero 10 in absurd (omega arith)
-digits_read (suc f) n i l o m h =
-    digits_by (ltb n 10) f n i l refl o m
+digits_read : (f n : ℕ) (l : List ℕ) → 1 ≤ n → n ≤ largest → n < 10 ^ f → number (decimal_in f n ++ l) ≡ number_from n l
+digits_read zero n l o m h = let q = pow-zero 10 in absurd (omega arith)
+digits_read (suc f) n l o m h =
+    digits_by (ltb n 10) f n l refl o m
     (λ k x. let q = div-add-mod' n 10 in let r = mod-lt n {m = 10} (lit< tt) in
-    digits_read f (n / 10) i x (omega arith) (omega arith) (tenth f n h))
+    digits_read f (n / 10) x (omega arith) (omega arith) (tenth f n h))
 
-from_stops : (l : List ℕ) (v i : ℕ) → NoDigit l → number_from v i l ≡ At v i
-from_stops [] v i h = refl
-from_stops (b ∷ l) v i h = rw h
+from_stops : (l : List ℕ) (v : ℕ) → NoDigit l → number_from v l ≡ Some (v, l)
+from_stops [] v h = refl
+from_stops (b ∷ l) v h = rw h
 
-number_read : (n i : ℕ) (l : List ℕ) → n ≤ largest → NoDigit l → number i (decimal n ++ l) ≡ At n (i + length (decimal n))
+number_read : (n : ℕ) (l : List ℕ) → n ≤ largest → NoDigit l → number (decimal n ++ l) ≡ Some (n, l)
 unfolding decimal number
-number_read zero i l m h = rw (h, byte_digit 0 (omega arith))
-number_read (suc n) i l m h =
-    digits_read 20 (suc n) i l (omega arith) m (let p : suc n < 100000000000000000000 = omega arith in p)
-    ∙ from_stops l (suc n) (i + length (decimal_in 20 (suc n))) h
-
--- the place after a space and a number
-abbrev pub past : ℕ → ℕ → ℕ
-past i n = i + 1 + length (decimal n)
+number_read zero l m h = rw h
+number_read (suc n) l m h =
+    digits_read 20 (suc n) l (omega arith) m (let p : suc n < 100000000000000000000 = omega arith in p)
+    ∙ from_stops l (suc n) h
 
 spaced_stops : (ns : List ℕ) → NoDigit (spaced ns)
-unfolding digit_of
 spaced_stops [] = refl
 spaced_stops (n ∷ ns) = refl
 
-pub space_read : (s ns : List ℕ) (n i : ℕ) → n ≤ largest → drop i s ≡ spaced (n ∷ ns) → after_space i (drop i s) ≡ At n (past i n)
+pub space_read : (n : ℕ) (ns : List ℕ) → n ≤ largest → after_space (spaced (n ∷ ns)) ≡ Some (n, spaced ns)
 unfolding after_space
-space_read s ns n i h e = rw e (number_read n (i + 1) (spaced ns) h (spaced_stops ns))
-
-pub past_read : (s ns : List ℕ) (n i : ℕ) → drop i s ≡ spaced (n ∷ ns) → drop (past i n) s ≡ spaced ns
-past_read s ns n i e =
-    let z : past i n ≡ i + (1 + length (decimal n)) = omega arith in
-    ap (λ (k : ℕ). drop k s) z
-    ∙ sym (drop-drop (1 + length (decimal n)) i s)
-    ∙ ap (λ (x : List ℕ). drop (1 + length (decimal n)) x) e
-    ∙ drop_at (32 ∷ decimal n) (spaced ns) (1 + length (decimal n)) (omega arith)
+space_read n ns h = number_read n (spaced ns) h (spaced_stops ns)

@@ -20,7 +20,9 @@ use Rattle.rules.specs.Refusals.{short, unsound, kept_refusal, listing_refusal, 
 use Rattle.rules.specs.Listing.{items, in_front, listed_count, listed_room}
 use Rattle.rules.specs.Events.{inner, event, setup}
 use Rattle.rules.proofs.Tests.{both, unrefused}
+use Rattle.std.specs.Prelude.{Some}
 use Rattle.bench.specs.declared.read.Command.TheVariants.{Ring}
+use Rattle.bench.specs.declared.Phase.{Phase}
 use Rattle.bench.specs.declared.Phase.TheVariants.{Running, Ended}
 use Rattle.bench.specs.Print.{said_of, said_text}
 use Rattle.bench.specs.Bench.{run, run_with, bench_of, items_of, Lists, event_says, refused_text, first_line, first_says}
@@ -56,8 +58,8 @@ unfolding event_says event accept
 event-text l n s e room h = text_by (eqb (unsound s) 0) l n s e room (inner s e) (unsound s) (λ z. h (sound_kept s (eqb-true (unsound s) 0 z)))
 
 module _ (l : ℕ) (s : State) (e : Event) (c : Control) (r k : List ℕ) (a : Answer) (f : out (state c r k) a ≡ event s e) where
-  pub event_ran : run_with (bench_of Running l c) r k ≡ run Running l (event s e).state
-  event_ran = ap (λ (x : Out). run Running l x.state) f
+  pub event_ran : (p : Phase) → run_with (bench_of p l c) r k ≡ run p l (event s e).state
+  event_ran p = ap (λ (x : Out). run p l x.state) f
 
   pub event_said : (n : ℕ) (room : List ℕ) → Lists s.control s.kept e room n
       → said_text c.ring.events l (take n room) (said_of a) ≡ event_says l s e
@@ -69,19 +71,19 @@ module _ (l R n S x : ℕ) (running kept : List ℕ) (c : Control) (r k : List �
   abbrev blank : State
   blank = state zero_control running kept
 
-  pub ring_ran : x ≡ 0 → run_with (bench_of Running l c) r k ≡ first_line l blank (Ring R n S)
+  pub ring_ran : x ≡ 0 → run_with (bench_of Running l c) r k ≡ first_line l blank (Some (Ring R n S))
   unfolding first_line
   ring_ran z = rw (f, ← e, eq-eqb x 0 z)
 
-  pub ring_silent : x ≡ 0 → first_says l blank (Ring R n S) ≡ []
+  pub ring_silent : x ≡ 0 → first_says l blank (Some (Ring R n S)) ≡ []
   unfolding first_says
   ring_silent z = rw (← e, eq-eqb x 0 z)
 
-  pub ring_refused : (x ≡ 0 → ⊥) → run_with (bench_of Ended l c) r k ≡ first_line l blank (Ring R n S)
+  pub ring_refused : (x ≡ 0 → ⊥) → run_with (bench_of Ended l c) r k ≡ first_line l blank (Some (Ring R n S))
   unfolding first_line
   ring_refused z = rw (f, ← e, ne_eqb x 0 z)
 
-  pub ring_says : (x ≡ 0 → ⊥) → first_says l blank (Ring R n S) ≡ refused_text l x
+  pub ring_says : (x ≡ 0 → ⊥) → first_says l blank (Some (Ring R n S)) ≡ refused_text l x
   unfolding first_says
   ring_says z = rw (← e, ne_eqb x 0 z)
 

@@ -1,8 +1,13 @@
 -- A block of input as the code runs it: a carry of 41 bytes, of which a full one means that the line is too long, and a buffer that can be full.
-use Rattle.std.specs.Prelude.{ℕ, ◌+◌, ◌-◌, ◌/◌, List, [], ◌∷◌, Bool, cond, length, set, take, eqb, leb, ltb}
+use Rattle.std.specs.Prelude.{ℕ, ◌+◌, ◌-◌, ◌/◌, List, [], ◌∷◌, Bool, cond, length, replicate, set, take, eqb, leb, ltb}
 use Rattle.std.proofs.lemmas.List.Edits.{sets}
+use Rattle.bench.specs.declared.carry.Carry.{Carry}
 use Rattle.bench.specs.Bench.{Run, ran_line, line_says}
 use Rattle.bench.specs.Stream.{last_ran, finish_says}
+
+-- before the first byte
+abbrev pub empty_carry : Carry
+empty_carry = record { bytes = replicate 41 0; len = 0 }
 
 -- a byte of a line that is not over
 unfoldable pub keep_carry : List ℕ → ℕ → ℕ → List ℕ

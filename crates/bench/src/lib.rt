@@ -2,6 +2,7 @@
 #![tactic(auto)]
 
 mod block;
+mod carry;
 mod gather;
 mod print;
 pub mod read;
@@ -12,10 +13,13 @@ ghost use Rattle.std.specs.Prelude.{◌≡◌, ◌+◌, ◌<◌, ◌≤◌, leng
 ghost use Rattle.bench.specs.Bench.{run_with, fresh_bench};
 ghost use Rattle.bench.specs.Block.{poured, line_room, pour, finished};
 
+pub use carry::Carry;
+use print::Text;
 use rules::Control;
+use tell::Batch;
 
 // Before the first line, running, or ended by a refused first line.
-#[derive(Clone, Copy)]
+#[derive(Clone, Copy, PartialEq, Eq)]
 pub enum Phase {
     First,
     Running,
@@ -30,11 +34,10 @@ pub struct Bench {
     pub control: Control,
 }
 
-// What a block leaves beside the carry, the images and the buffer: the bench, how many bytes the carry holds, the next place in the block and in the buffer.
+// What a block leaves beside the carry, the images and the buffer: the bench, the next place in the block and in the buffer.
 #[derive(Clone, Copy)]
 pub struct Fed {
     pub bench: Bench,
-    pub len: usize,
     pub next: usize,
     pub at: usize,
 }
@@ -48,23 +51,21 @@ pub struct Finished {
 
 impl Bench {
     // Before the first line.
-    pub fn fresh() -> Bench
+    pub fn fresh() -> Self
         ensures { result ≡ fresh_bench }
     {
-        let control = Control::fresh(0, 0, 0);
         Bench {
             phase: Phase::First,
             lines: 0,
-            control,
+            control: Control::fresh(0, 0, 0),
         }
     }
 }
 
 // A block of input from a place on, until it is over or as many lines were run as the buffer has room for, at 2,048 bytes each.
 pub fn feed(
-    bench: Bench,
-    carry: &mut [u8; 41],
-    len: usize,
+    mut bench: Bench,
+    carry: &mut Carry,
     running: &mut [u32],
     kept: &mut [u32],
     block: &[u8],
@@ -72,55 +73,34 @@ pub fn feed(
     out: &mut [u8],
     at: usize,
 ) -> Fed
-    ensures outcome { poured (run_with result.bench running.new kept.new) carry.new result.len result.next out.new result.at ≡ pour (line_room out.old at) (run_with bench running.old kept.old) carry.old len from (drop from block.now) out.old at }
+    ensures outcome { poured (run_with result.bench running.new kept.new) carry.new.bytes carry.new.len result.next out.new result.at ≡ pour (line_room out.old at) (run_with bench running.old kept.old) carry.old.bytes carry.old.len from (drop from block.now) out.old at }
     ensures room { (at ≤ length out.old → result.at ≤ length out.new) × (from < length block.now → at + 2048 ≤ length out.old → from < result.next) }
 {
-    let mut b = bench;
-    let mut n = len;
-    let mut i = from;
-    let mut p = at;
+    let mut next = from;
     let mut left = block::line_room(out, at);
-    while i < block.len() {
-        let g = tell::run_lines(b, carry, n, running, kept, block, i, left, out, p);
-        b = g.bench;
-        p = g.at;
-        left = g.left;
-        let s = block::scan_line(block, g.next, carry, g.len);
-        n = s.len;
-        i = s.next;
-        if block.len() <= i {
-            return Fed {
-                bench: b,
-                len: n,
-                next: i,
-                at: p,
-            };
+    let mut text = Text { out, at };
+    // A while, since a turn goes on where the lines of the turn before it end, which no range gives.
+    while next < block.len() {
+        Batch { bench, next, left } = tell::run_lines(
+            bench, carry, running, kept, block, next, left, &mut text,
+        );
+        next = block::scan_line(block, next, carry);
+        if block.len() <= next || left == 0 {
+            break;
         }
-        if left == 0 {
-            return Fed {
-                bench: b,
-                len: n,
-                next: i,
-                at: p,
-            };
-        }
-        let r = run::run_carried(b, carry, n, running, kept, out, p);
-        b = r.bench;
-        p = r.at;
-        n = 0;
-        i += 1;
+        bench = run::run_line(bench, carry.line(), running, kept, &mut text);
+        carry.clear();
+        next += 1;
         left -= 1;
     }
     Fed {
-        bench: b,
-        len: n,
-        next: i,
-        at: p,
+        bench,
+        next,
+        at: text.at,
     }
 }
 
 // The end of the input: the last line, if its newline is missing or no line was read, and the event count. It wants room for 4,096 bytes.
-#[tactic(auto, unfolding(crate::specs::Bench::end_says))]
 pub fn finish(
     bench: Bench,
     carry: &[u8],
@@ -136,8 +116,8 @@ pub fn finish(
     if !block::has_room(out, at, 4096) {
         return Finished { bench, at };
     }
-    let r = run::run_last(bench, carry, len, running, kept, out, at);
-    let b = r.bench;
-    let p = print::put_end(b.control.ring.events, out, r.at);
-    Finished { bench: b, at: p }
+    let mut text = Text { out, at };
+    let bench = run::run_last(bench, carry, len, running, kept, &mut text);
+    text.end(bench.control.ring.events);
+    Finished { bench, at: text.at }
 }

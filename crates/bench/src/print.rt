@@ -1,14 +1,14 @@
 // What ringrun prints, into a lent buffer.
-ghost use Rattle.std.specs.Prelude.{◌≡◌, ◌+◌, ◌*◌, ◌≤◌, [], ◌∷◌, length};
-ghost use Rattle.bench.specs.Decimal.{decimal_in, decimal, spaced};
-ghost use Rattle.bench.specs.Print.{Wrote, head_text, counted_text, said_of, said_text, end_text};
+ghost use Rattle.std.specs.Prelude.{◌≡◌, ◌+◌, ◌*◌, ◌≤◌, [], ◌∷◌, ◌++◌, length, Some};
+ghost use Rattle.bench.specs.Decimal.{decimal, spaced};
+ghost use Rattle.bench.specs.Print.{Written, HasRoom, LineWritten, counted_text, said_of, said_text, end_text};
 
+use itoa::Buffer;
 use rules::{Answer, Found};
 
-// What is printed of an answer: nothing, a refusal with its number, or one of the five with its thread and item, or what a cut found.
+// What is printed of an answer: a refusal with its number, or one of the four with its thread and item, or what a cut found.
 #[derive(Clone, Copy)]
 pub enum Said {
-    Nothing,
     Refused(u32),
     Ok(u32, u32),
     Closed(u32),
@@ -17,205 +17,131 @@ pub enum Said {
     Cut(Found),
 }
 
-// What is printed of an answer.
-pub fn said_of(a: Answer) -> Said
+// What is printed of an answer, if anything. A function and no TryFrom, which would need an error that says nothing.
+pub fn said_of(a: Answer) -> Option<Said>
     ensures { result ≡ said_of a }
 {
     match a {
-        Answer::Refused(k) => Said::Refused(k),
-        Answer::Begun(_) => Said::Nothing,
-        Answer::Drew(_) => Said::Nothing,
-        Answer::Looked(_, _) => Said::Nothing,
-        Answer::SawHead(_, _) => Said::Nothing,
-        Answer::Landed(_, _, _) => Said::Nothing,
-        Answer::Missed(_, _) => Said::Nothing,
-        Answer::Asked(_) => Said::Nothing,
-        Answer::Waiting(_) => Said::Nothing,
-        Answer::Ok(b, x) => Said::Ok(b.thread, x),
-        Answer::Closed(b) => Said::Closed(b.thread),
-        Answer::SetClosed(_) => Said::Nothing,
-        Answer::Took(_, _, _) => Said::Nothing,
-        Answer::Flagged(_, _) => Said::Nothing,
-        Answer::Passed(_, _) => Said::Nothing,
-        Answer::SawTail(_, _) => Said::Nothing,
-        Answer::Lifted(_, _) => Said::Nothing,
-        Answer::Copied(_, _) => Said::Nothing,
-        Answer::Item(b, x) => Said::Item(b.thread, x),
-        Answer::Empty(b) => Said::Empty(b.thread),
-        Answer::Written(_) => Said::Nothing,
-        Answer::Cut(f) => Said::Cut(f),
+        Answer::Refused(k) => Some(Said::Refused(k)),
+        Answer::Ok(b, x) => Some(Said::Ok(b.thread, x)),
+        Answer::Closed(b) => Some(Said::Closed(b.thread)),
+        Answer::Item(b, x) => Some(Said::Item(b.thread, x)),
+        Answer::Empty(b) => Some(Said::Empty(b.thread)),
+        Answer::Cut(f) => Some(Said::Cut(f)),
+        _ => None,
     }
 }
 
-fn wide(x: u32) -> u64
-    ensures { result ≡ x }
-{
-    x as u64
+// Text on its way into a lent buffer: the next byte goes to place `at`.
+// No `fmt::Write`: its contract says nothing of a write that fails, and `feed` promises by `outcome` that the text is there.
+#[derive(Drop)]
+pub struct Text<'a> {
+    pub out: &'a mut [u8],
+    pub at: usize,
 }
 
-// A byte.
-fn put_byte(b: u8, out: &mut [u8], at: usize) -> usize
-    requires { at + 1 ≤ length out.old }
-    ensures { Wrote out.old at (b ∷ []) out.new result }
-{
-    out[at] = b;
-    at + 1
-}
-
-// A number in decimal, in at most f digits.
-fn put_digits(f: usize, n: u64, out: &mut [u8], at: usize) -> usize
-    requires { at + f ≤ length out.old }
-    ensures wrote { Wrote out.old at (decimal_in f n) out.new result }
-    ensures room { result ≤ at + f }
-{
-    if f == 0 {
-        return at;
+impl Text<'_> {
+    fn byte(&mut self, b: u8)
+        requires { self.old.at + 1 ≤ length self.old.out.now }
+        ensures { Written self.old (b ∷ []) self.new }
+    {
+        self.out[self.at] = b;
+        self.at += 1;
     }
-    if n < 10 {
-        out[at] = 48 + (n as u8);
-        return at + 1;
+
+    #[tactic(auto, using(crate::proofs::Stored::copied))]
+    fn word(&mut self, word: &[u8])
+        requires { self.old.at + length word.now ≤ length self.old.out.now }
+        ensures { Written self.old word.now self.new }
+    {
+        let end = self.at + word.len();
+        let out = &mut *self.out;
+        out[self.at..end].copy_from_slice(word);
+        self.at = end;
     }
-    let next = put_digits(f - 1, n / 10, out, at);
-    out[next] = 48 + ((n % 10) as u8);
-    next + 1
-}
 
-// A number in decimal.
-#[tactic(auto, unfolding(crate::specs::Decimal::decimal))]
-fn put_decimal(n: u64, out: &mut [u8], at: usize) -> usize
-    requires { at + 20 ≤ length out.old }
-    ensures wrote { Wrote out.old at (decimal n) out.new result }
-    ensures room { result ≤ at + 20 }
-{
-    put_digits(20, n, out, at)
-}
-
-// A number after a space.
-fn put_number(n: u64, out: &mut [u8], at: usize) -> usize
-    requires { at + 21 ≤ length out.old }
-    ensures wrote { Wrote out.old at (spaced (n ∷ [])) out.new result }
-    ensures room { result ≤ at + 21 }
-{
-    let p = put_byte(32, out, at);
-    put_decimal(n, out, p)
-}
-
-// Numbers, each after a space.
-fn put_numbers(ns: &[u32], out: &mut [u8], at: usize) -> usize
-    requires { (length ns.now ≤ 64) × (at + 21 * length ns.now ≤ length out.old) }
-    ensures wrote { Wrote out.old at (spaced ns.now) out.new result }
-    ensures room { result ≤ at + 21 * length ns.now }
-{
-    let mut p = at;
-    let mut i = 0;
-    while i < ns.len() {
-        p = put_number(wide(ns[i]), out, p);
-        i += 1;
+    // A number in decimal.
+    #[tactic(auto, using(crate::proofs::Decimal::as_std))]
+    fn decimal(&mut self, n: u64)
+        requires { self.old.at + 20 ≤ length self.old.out.now }
+        ensures wrote { Written self.old (decimal n) self.new }
+        ensures room { self.new.at ≤ self.old.at + 20 }
+    {
+        self.word(Buffer::new().format(n).as_bytes());
     }
-    p
-}
 
-// A word.
-fn put_word(k: &[u8], out: &mut [u8], at: usize) -> usize
-    requires { at + length k.now ≤ length out.old }
-    ensures { Wrote out.old at k.now out.new result }
-{
-    let mut i = 0;
-    while i < k.len() {
-        out[at + i] = k[i];
-        i += 1;
+    // A number after a space.
+    fn number(&mut self, n: u64)
+        requires { self.old.at + 21 ≤ length self.old.out.now }
+        ensures wrote { Written self.old (spaced (n ∷ [])) self.new }
+        ensures room { self.new.at ≤ self.old.at + 21 }
+    {
+        self.byte(b' ');
+        self.decimal(n);
     }
-    at + i
-}
 
-// The event count, a word and its numbers.
-#[tactic(auto, unfolding(crate::specs::Print::head_text))]
-fn put_head(e: u32, k: &[u8], ns: &[u32], out: &mut [u8], at: usize) -> usize
-    requires { (length k.now ≤ 8) × (length ns.now ≤ 8) × (at + 256 ≤ length out.old) }
-    ensures wrote { Wrote out.old at (head_text e k.now ns.now) out.new result }
-    ensures room { result ≤ at + 197 }
-{
-    let p = put_decimal(wide(e), out, at);
-    let q = put_byte(32, out, p);
-    let r = put_word(k, out, q);
-    put_numbers(ns, out, r)
-}
-
-// The event count, a word, its numbers, a newline.
-#[tactic(auto, unfolding(crate::specs::Print::counted_text))]
-fn put_counted(e: u32, k: &[u8], ns: &[u32], out: &mut [u8], at: usize) -> usize
-    requires { (length k.now ≤ 8) × (length ns.now ≤ 8) × (at + 256 ≤ length out.old) }
-    ensures wrote { Wrote out.old at (counted_text e k.now ns.now) out.new result }
-    ensures room { result ≤ at + 198 }
-{
-    let p = put_head(e, k, ns, out, at);
-    put_byte(10, out, p)
-}
-
-// What a cut found and the items that it queued.
-#[tactic(auto, unfolding(crate::specs::Print::counted_text, crate::specs::Print::said_text))]
-fn put_cut(e: u32, f: Found, items: &[u32], out: &mut [u8], at: usize) -> usize
-    requires { (length items.now ≤ 64) × (at + 2048 ≤ length out.old) }
-    ensures wrote { Wrote out.old at (said_text e 0 items.now (Said.Cut f)) out.new result }
-    ensures room { result ≤ at + 1542 }
-{
-    let ns = [f.mark, f.head, f.tail, f.closed, f.count];
-    let p = put_head(e, b"cut", &ns, out, at);
-    let q = put_numbers(items, out, p);
-    put_byte(10, out, q)
-}
-
-// A refused line's number and the refusal's.
-#[tactic(auto, unfolding(crate::specs::Print::line_text, crate::specs::Print::said_text))]
-pub fn put_refused(l: u64, k: u32, out: &mut [u8], at: usize) -> usize
-    requires { at + 256 ≤ length out.old }
-    ensures wrote { Wrote out.old at (said_text 0 l [] (Said.Refused k)) out.new result }
-    ensures room { result ≤ at + 256 }
-{
-    let p = put_word(b"refused", out, at);
-    let q = put_number(l, out, p);
-    let r = put_number(wide(k), out, q);
-    put_byte(10, out, r)
-}
-
-// The last line.
-#[tactic(auto, unfolding(crate::specs::Print::end_text, crate::specs::Print::line_text))]
-pub fn put_end(e: u32, out: &mut [u8], at: usize) -> usize
-    requires { at + 256 ≤ length out.old }
-    ensures wrote { Wrote out.old at (end_text e) out.new result }
-    ensures room { result ≤ at + 256 }
-{
-    let p = put_word(b"end", out, at);
-    let q = put_number(wide(e), out, p);
-    put_byte(10, out, q)
-}
-
-// The line that is printed, if any.
-#[tactic(auto, unfolding(crate::specs::Print::said_text))]
-pub fn put_said(e: u32, l: u64, s: Said, items: &[u32], out: &mut [u8], at: usize) -> usize
-    requires { (length items.now ≤ 64) × (at + 2048 ≤ length out.old) }
-    ensures wrote { Wrote out.old at (said_text e l items.now s) out.new result }
-    ensures room { result ≤ at + 2048 }
-{
-    match s {
-        Said::Nothing => at,
-        Said::Refused(k) => put_refused(l, k, out, at),
-        Said::Ok(t, x) => {
-            let ns = [t, x];
-            put_counted(e, b"ok", &ns, out, at)
+    // Numbers, each after a space.
+    fn numbers(&mut self, ns: &[u32])
+        requires { (length ns.now ≤ 64) × (self.old.at + 21 * length ns.now ≤ length self.old.out.now) }
+        ensures wrote { Written self.old (spaced ns.now) self.new }
+        ensures room { self.new.at ≤ self.old.at + 21 * length ns.now }
+    {
+        for n in ns {
+            self.number(u64::from(*n));
         }
-        Said::Closed(t) => {
-            let ns = [t];
-            put_counted(e, b"closed", &ns, out, at)
+    }
+
+    // The event count, a word, its numbers and items, a newline.
+    fn counted(&mut self, e: u32, word: &[u8], ns: &[u32], items: &[u32])
+        requires { (length word.now ≤ 8) × (length ns.now ≤ 8) × (length items.now ≤ 64) × HasRoom self.old }
+        ensures { LineWritten self.old (counted_text e word.now (ns.now ++ items.now)) self.new }
+    {
+        self.decimal(u64::from(e));
+        self.byte(b' ');
+        self.word(word);
+        self.numbers(ns);
+        self.numbers(items);
+        self.byte(b'\n');
+    }
+
+    // A refused line's number and the refusal's.
+    pub fn refused(&mut self, l: u64, k: u32)
+        requires { HasRoom self.old }
+        ensures { LineWritten self.old (said_text 0 l [] (Some (Said.Refused k))) self.new }
+    {
+        self.word(b"refused");
+        self.number(l);
+        self.number(u64::from(k));
+        self.byte(b'\n');
+    }
+
+    // The last line.
+    pub fn end(&mut self, e: u32)
+        requires { HasRoom self.old }
+        ensures { LineWritten self.old (end_text e) self.new }
+    {
+        self.word(b"end");
+        self.number(u64::from(e));
+        self.byte(b'\n');
+    }
+
+    // What is said of an answer, if anything.
+    #[tactic(auto, unfolding(crate::specs::Print::said_text))]
+    pub fn said(&mut self, e: u32, l: u64, s: Option<Said>, items: &[u32])
+        requires { (length items.now ≤ 64) × HasRoom self.old }
+        ensures { LineWritten self.old (said_text e l items.now s) self.new }
+    {
+        match s {
+            None => {}
+            Some(Said::Refused(k)) => self.refused(l, k),
+            Some(Said::Ok(t, x)) => self.counted(e, b"ok", &[t, x], &[]),
+            Some(Said::Closed(t)) => self.counted(e, b"closed", &[t], &[]),
+            Some(Said::Item(t, x)) => self.counted(e, b"item", &[t, x], &[]),
+            Some(Said::Empty(t)) => self.counted(e, b"empty", &[t], &[]),
+            Some(Said::Cut(f)) => {
+                let found = [f.mark, f.head, f.tail, f.closed, f.count];
+                self.counted(e, b"cut", &found, items);
+            }
         }
-        Said::Item(t, x) => {
-            let ns = [t, x];
-            put_counted(e, b"item", &ns, out, at)
-        }
-        Said::Empty(t) => {
-            let ns = [t];
-            put_counted(e, b"empty", &ns, out, at)
-        }
-        Said::Cut(f) => put_cut(e, f, items, out, at),
     }
 }

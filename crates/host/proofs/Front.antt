@@ -1,7 +1,6 @@
 -- Host recovery reads and writes the numbers in front only: 266 of them are as good as all.
 use Prim.Native.Nat.{ℕ, zero, suc, ◌+◌, ◌*◌, ◌/◌, ◌≤◌, ◌<◌, min}
 use mathlib.Core.Path.{◌≡◌, refl, ap, sym, ◌∙◌}
-use mathlib.Core.Logic.{◌≢◌}
 use mathlib.Core.Bool.{Bool, true, false, ◌&&◌, not}
 use mathlib.Core.List.{List}
 use native.Mathlib.Omega.{arith}
@@ -9,9 +8,11 @@ use native.Mathlib.Decide.{dec_lt}
 use borrow.Author.Tests.{lt-ltb, le-ltb, eq-eqb, ne_eqb, not-false}
 use lib.Dec.{leb}
 use lib.ListN.{length, take, length-take}
-use lib.Seq.{get_or-take, take-set-lt, take_all}
+use lib.Seq.{get_or-take, take-set-lt, take_all, length-take-le}
 use Rattle.rules.specs.declared.Cell.{Cell}
 use Rattle.rules.specs.declared.Found.{Found}
+use Rattle.rules.specs.declared.Refusal.{Refusal}
+use Rattle.rules.specs.Refusal.{number_of}
 use Rattle.rules.specs.Numbers.{in_range, run_limit}
 use Rattle.rules.specs.Upto.{all_to}
 use Rattle.rules.specs.Memory.{cell_at, set_cell, copy_at, set_copy, closed_at, set_tail, tail_at, size, cells_to, copies_to}
@@ -23,6 +24,7 @@ use Rattle.rules.proofs.Tests.{both}
 use Rattle.rules.proofs.Sound.{range_of}
 use Rattle.rules.proofs.Kept.{SoundKept, kept_of}
 use Rattle.rules.proofs.Unread.{finds_same}
+use Rattle.ring.proofs.Entries.{numbered}
 use Rattle.host.specs.Bytes.{numbers_to, numbers_of, bytes_to, host_refusal, host_bytes}
 use Rattle.host.proofs.Laws.{length-numbers, take-numbers, bytes_take, refusal_of}
 
@@ -121,8 +123,12 @@ refusal_front R n S e m = tested (not (in_range R n S && leb e run_limit)) refl
         rw (s, short_front R n m (omega arith))
 
 -- what an image is that was not refused
-pub kept_by : (R n S e r : ℕ) (m : List ℕ) → r ≡ kept_refusal R n S e m → r ≡ 0 → SoundKept R n S e m
-kept_by R n S e r m k z = kept_of R n S e m (sym k ∙ z)
+pub kept_by : (R n S e : ℕ) (m : List ℕ) → 0 ≡ kept_refusal R n S e m → SoundKept R n S e m
+kept_by R n S e m k = kept_of R n S e m (sym k)
+
+-- so its sizes are small, and it is as long as they say
+pub sizes : (R n S e : ℕ) (m : List ℕ) → 0 ≡ kept_refusal R n S e m → (R ≤ 64) × (n ≤ 8) × (size R n ≤ length m)
+sizes R n S e m k = let h = kept_by R n S e m k in (h.range.most_cells, h.range.most_threads, h.long)
 
 -- of m, the numbers in front of the bytes b: as many as there are, and 266 at most
 module _ (R n S e : ℕ) (b m : List ℕ) (k : ℕ) (read : m ≡ numbers_to b k) (count : k ≡ min (length b / 4) 266) where
@@ -139,20 +145,20 @@ module _ (R n S e : ℕ) (b m : List ℕ) (k : ℕ) (read : m ≡ numbers_to b k
   refusal_by = ap (kept_refusal R n S e) front ∙ (refusal_front R n S e (numbers_of b) ∙ sym (refusal_of R n S e b))
 
   -- a refusal of those numbers is the refusal of the bytes
-  pub refused_by : (r : ℕ) → r ≡ kept_refusal R n S e m → r ≢ 0 → (r ≡ host_refusal R n S e b) × (b ≡ host_bytes R n S e b)
+  pub refused_by : (r : Refusal) → number_of r ≡ kept_refusal R n S e m → (number_of r ≡ host_refusal R n S e b) × (b ≡ host_bytes R n S e b)
   unfolding host_bytes
-  refused_by r k z = (k ∙ refusal_by, rw (ne_eqb _ _ (λ (q : host_refusal R n S e b ≡ 0). z (k ∙ refusal_by ∙ q))))
+  refused_by r k = (k ∙ refusal_by, rw (ne_eqb _ _ (λ (q : host_refusal R n S e b ≡ 0). numbered r (k ∙ refusal_by ∙ q))))
 
-  -- where they are recovered to w, and w is put in front of the bytes, the bytes are recovered
-  pub recovered_by : (r : ℕ) (w x : List ℕ) → r ≡ kept_refusal R n S e m → r ≡ 0 → w ≡ host_kept R n S e m → x ≡ bytes_to w b (size R n)
-      → (0 ≡ host_refusal R n S e b) × (x ≡ host_bytes R n S e b)
+  -- where they are recovered to w, and as many of w as an image has are put in front of the bytes, the bytes are recovered
+  pub recovered_by : (w x : List ℕ) → 0 ≡ kept_refusal R n S e m → w ≡ host_kept R n S e m → x ≡ bytes_to (take (size R n) w) b (length (take (size R n) w))
+      → size R n ≤ length w → (0 ≡ host_refusal R n S e b) × (x ≡ host_bytes R n S e b)
   unfolding host_kept host_bytes
-  recovered_by r w x k z h y =
-      let q = sym k ∙ z in
+  recovered_by w x k h y long =
+      let q = sym k in
       let c = (kept_of R n S e m q).range.most_cells in
       let t = (kept_of R n S e m q).range.most_threads in
       let fits : size R n ≤ 266 = omega arith in (
         sym q ∙ refusal_by,
-        rw (y, h, eq-eqb _ _ q, eq-eqb _ _ (sym refusal_by ∙ q), front, recovered_front R n 266 (numbers_of b) fits)
+        rw (y, length-take-le (size R n) w long, bytes_take w b (size R n) (size R n) (omega arith), h, eq-eqb _ _ q, eq-eqb _ _ (sym refusal_by ∙ q), front, recovered_front R n 266 (numbers_of b) fits)
             (bytes_take (recovered R n (numbers_of b)) b 266 (size R n) fits),
       )

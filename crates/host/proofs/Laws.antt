@@ -1,29 +1,19 @@
 -- Numbers in bytes: how many there are, which stand where, and what stores leave.
 use Prim.Native.Nat.{ℕ, zero, suc, ◌+◌, ◌*◌, ◌/◌, ◌%◌, ◌≤◌, ◌<◌}
-use mathlib.Core.Path.{◌≡◌, refl, ap, sym, ◌∙◌}
+use mathlib.Core.Path.{◌≡◌, refl, ◌∙◌}
 use mathlib.Core.Logic.{◌≢◌}
-use mathlib.Core.List.{List, [], ◌∷◌, ◌++◌, append-nil}
+use mathlib.Core.List.{List, [], ◌∷◌}
 use native.Mathlib.Omega.{arith}
 use native.Mathlib.Nat.{div-add-mod, div-div-eq-div-mul, mod-eq_of_lt}
 use native.Mathlib.Decide.{ℕ_discrete}
-use lib.ListN.{length, take, drop, set, get_or, length-append, length-set, get_or-append}
-use lib.Seq.{drop-length, drop-cons, set_at, append_snoc, take-append-le, take_all, get_or_at, get_or-set_other, get_or-set_same, get_or-take}
+use lib.ListN.{length, take, set, get_or, length-append, length-set, get_or-append}
+use lib.Seq.{take-append-le, take_all, get_or_at, get_or-set_other, get_or-set_same, get_or-take}
 use Rattle.rules.specs.Refusals.{kept_refusal}
 use Rattle.host.specs.Bytes.{number_at, set_number, numbers_to, numbers_of, bytes_to, host_refusal}
 
 pub length-numbers : (b : List ℕ) (k : ℕ) → length (numbers_to b k) ≡ k
 length-numbers b zero = refl
 length-numbers b (suc k) = simp (length-append, length-numbers b k) (omega arith)
-
--- a turn of the loop that reads
-pub numbers-step : (b w : List ℕ) (j : ℕ) → j < length w → set (numbers_to b j ++ drop j w) j (number_at b j) ≡ numbers_to b (suc j) ++ drop (suc j) w
-numbers-step b w j h =
-    ap (λ (r : List ℕ). set (numbers_to b j ++ r) j (number_at b j)) (drop-cons w j 0 h)
-    ∙ set_at (numbers_to b j) (get_or w j 0) (drop (suc j) w) (number_at b j) j (length-numbers b j)
-    ∙ sym (append_snoc (numbers_to b j) (number_at b j) (drop (suc j) w))
-
-pub numbers_all : (b w : List ℕ) (j : ℕ) → j ≡ length w → numbers_to b j ++ drop j w ≡ numbers_to b (length w)
-numbers_all b w j e = rw (e, drop-length w) (append-nil (numbers_to b (length w)))
 
 -- the first k of more numbers
 pub take-numbers : (b : List ℕ) (k l : ℕ) → k ≤ l → take k (numbers_to b l) ≡ numbers_to b k

@@ -2,99 +2,55 @@
 // speed/run times it: the difference is what it costs to take any memory at each event. A read or a write that fails ends it with the error.
 #![tactic(auto)]
 
-ghost use Rattle.std.specs.Prelude.{◌≤◌};
-
 use rules::Control;
 use std::io;
 use std::io::Read;
 
-// Event k of the block.
-fn set_three(events: &mut [u32; 765], k: usize, kind: u32, place: u32, item: u32)
-    requires { k ≤ 254 }
-{
-    let at = 3 * k;
-    events[at] = kind;
-    events[at + 1] = place;
-    events[at + 2] = item;
-}
+// A put by thread 0 that lands and is confirmed, and a take by thread 0 that hands it out: 15 events, three numbers each. The sixth writes a cell back.
+const ROUND: [u32; 45] = [
+    1, 0, 7, 3, 0, 0, 3, 0, 0, 3, 0, 0, 3, 0, 0, 4, 0, 0, 3, 0, 0, //
+    2, 0, 0, 3, 0, 0, 3, 0, 0, 3, 0, 0, 3, 0, 0, 3, 0, 0, 5, 0, 0, 3, 0, 0,
+];
 
-// A put by thread 0 that lands in cell j and is confirmed.
-fn set_put(events: &mut [u32; 765], k: usize, j: u32)
-    requires { k ≤ 248 }
-{
-    set_three(events, k, 1, 0, 7);
-    set_three(events, k + 1, 3, 0, 0);
-    set_three(events, k + 2, 3, 0, 0);
-    set_three(events, k + 3, 3, 0, 0);
-    set_three(events, k + 4, 3, 0, 0);
-    set_three(events, k + 5, 4, j, 0);
-    set_three(events, k + 6, 3, 0, 0);
-}
+// Where the number of the cell written back stands.
+const CELL: usize = 16;
 
-// A take by thread 0 that hands it out.
-fn set_take(events: &mut [u32; 765], k: usize)
-    requires { k ≤ 247 }
-{
-    set_three(events, k, 2, 0, 0);
-    set_three(events, k + 1, 3, 0, 0);
-    set_three(events, k + 2, 3, 0, 0);
-    set_three(events, k + 3, 3, 0, 0);
-    set_three(events, k + 4, 3, 0, 0);
-    set_three(events, k + 5, 3, 0, 0);
-    set_three(events, k + 6, 5, 0, 0);
-    set_three(events, k + 7, 3, 0, 0);
-}
-
-// Seventeen puts and takes from a cell on: a block of 255 events.
+// Seventeen rounds from a cell on: a block of 255 events.
 fn fill(events: &mut [u32; 765], from: u32) {
-    for i in 0..17u32 {
-        let k = 15 * (i as usize);
-        let j = (from % 64 + i) % 64;
-        set_put(events, k, j);
-        set_take(events, k + 7);
+    for (i, round) in events.chunks_exact_mut(45).enumerate() {
+        round.copy_from_slice(&ROUND);
+        round[CELL] = (from % 64 + i as u32) % 64;
     }
 }
 
 // A block's events one by one.
-fn one_by_one(c: Control, running: &mut [u32], kept: &mut [u32], events: &[u32; 765]) -> Control {
-    let mut d = c;
-    for k in 0..255usize {
-        let at = 3 * k;
-        let e = wire::event_of(events[at], events[at + 1], events[at + 2]);
-        let o = ring::event(d, running, kept, e);
-        d = o.control;
+fn one_by_one(mut c: Control, running: &mut [u32], kept: &mut [u32], events: &[u32]) -> Control {
+    let (threes, _) = events.as_chunks::<3>();
+    for [kind, place, item] in threes {
+        c = ring::event(c, running, kept, wire::event_of(*kind, *place, *item)).control;
     }
-    d
+    c
 }
 
 // A block's events at once.
 fn in_a_block(c: Control, running: &mut [u32], kept: &mut [u32], events: &[u32]) -> Control {
     let mut room = [0u32; 1530];
-    let r = ring::run(c, running, kept, events, &mut room);
-    r.control
+    ring::run(c, running, kept, events, &mut room).control
 }
 
-fn either_way(
-    single: bool,
-    c: Control,
+// All blocks, each run by what is passed: how many events were accepted.
+fn run<F: Fn(Control, &mut [u32], &mut [u32], &[u32]) -> Control>(
+    block: F,
     running: &mut [u32],
     kept: &mut [u32],
-    events: &[u32; 765],
-) -> Control {
-    if single {
-        return one_by_one(c, running, kept, events);
-    }
-    in_a_block(c, running, kept, events)
-}
-
-// All blocks: how many events were accepted.
-fn run(single: bool, running: &mut [u32], kept: &mut [u32]) -> u32 {
+) -> u32
+    requires { F.IsAlwaysCallable block }
+{
     let mut events = [0u32; 765];
-    let s = ring::setup(64, 8, 255, running, kept);
-    let mut c = s.control;
+    let mut c = ring::setup(64, 8, 255, running, kept).control;
     for b in 0..3921u32 {
         fill(&mut events, b * 17);
-        c = either_way(single, c, running, kept, &events);
+        c = block(c, running, kept, &events);
     }
     c.ring.events
 }
@@ -104,7 +60,11 @@ fn main(rt: HostRuntime) -> io::Result<()> {
     let mut kept = [0u32; 266];
     let mut input = [0u8; 1];
     rt.stdin().read(&mut input)?;
-    let events = run(input[0] == 49, &mut running, &mut kept);
+    let events = if input[0] == b'1' {
+        run(one_by_one, &mut running, &mut kept)
+    } else {
+        run(in_a_block, &mut running, &mut kept)
+    };
     if events == 999855 {
         rt.write_all(b"all\n")
     } else {

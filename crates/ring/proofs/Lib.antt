@@ -1,4 +1,6 @@
 pub mod Laws
+pub mod Entries
+pub mod Images
 pub mod Sweep
 pub mod Least
 pub mod OneThread

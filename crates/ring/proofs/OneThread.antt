@@ -3,28 +3,24 @@ use Prim.Native.Nat.{ℕ, zero, suc, ◌≤◌, ◌<◌}
 use mathlib.Core.Path.{◌≡◌, refl, ap}
 use mathlib.Core.Logic.{◌≢◌}
 use native.Mathlib.Omega.{arith}
-use borrow.Author.Tests.{eqb-false, eq-eqb, ltb-true, ltb-false}
+use borrow.Author.Tests.{ltb-true, ltb-false}
 use mathlib.Core.List.{List, [], ◌∷◌}
-use mathlib.Core.Bool.{Bool, true, false, cond, not}
-use lib.Dec.{eqb, ltb, lit<}
+use mathlib.Core.Bool.{Bool, true, false, cond}
+use lib.Dec.{eqb, ltb}
 use lib.ListN.{length, set, get_or}
 use Rattle.rules.specs.declared.Thread.{Thread}
-use Rattle.rules.specs.declared.Ring.{Ring}
 use Rattle.rules.specs.declared.Control.{Control}
 use Rattle.rules.specs.declared.Answer.TheVariants.{Refused}
-use Rattle.rules.specs.declared.Line.TheVariants.{Cell, Copy, Tail}
-use Rattle.rules.specs.declared.Event.TheVariants.{Put, Take, Go, Back, Cut}
-use Rattle.rules.specs.Block.{event_of}
+use Rattle.rules.specs.declared.Event.TheVariants.{Put, Take, Go}
 use Rattle.rules.specs.Numbers.{max_threads, run_limit}
 use Rattle.rules.specs.Record.{idle, thread_at, with_thread}
 use Rattle.rules.specs.Facts.{Ready, Sound}
-use Rattle.rules.proofs.Tests.{unrefused}
 use Rattle.rules.proofs.Keep.{busy_at}
 use Rattle.rules.specs.State.{State, state, out, refused, accept}
-use Rattle.rules.specs.Refusals.{refuse, full, no_thread, is_idle, own_refusal, put_refusal, take_refusal, go_refusal}
+use Rattle.rules.specs.Refusals.{own_refusal, put_refusal, take_refusal, go_refusal}
 use Rattle.rules.specs.Table.{Step, leaves}
 use Rattle.rules.specs.Events.{begin_put, begin_take, step_thread, does, inner}
-use Rattle.ring.specs.OneThread.{moved, unless, put_of, take_of, go_of, one_of, left}
+use Rattle.ring.specs.OneThread.{moved, unless, put_of, take_of, go_of, left}
 
 -- a thread in its own place
 set_own : {A : Type 0} (l : List A) (i : ℕ) (d : A) → set l i (get_or l i d) ≡ l
@@ -60,42 +56,6 @@ module _ (s : State) (i : ℕ) where
   pub go_left : left s i (go_of s.control.ring i own s.running) ≡ inner s (Go i)
   unfolding go_of inner own_refusal does step_thread with_thread
   go_left = by_refusal s i (go_refusal s.control.ring i own) _
-
-  -- by its kind
-  pub one_left : (k x : ℕ) → 1 ≤ k → k ≤ 3 → left s i (one_of k s.control.ring i own x s.running) ≡ inner s (event_of k i x)
-  unfolding one_of event_of
-  one_left k x l h = by (eqb k 1) refl (eqb k 2) refl
-    where
-      third : k ≢ 1 → k ≢ 2 → k ≡ 3
-      third p q = omega arith
-
-      by : (a : Bool) → eqb k 1 ≡ a → (b : Bool) → eqb k 2 ≡ b
-          → left s i (cond a (put_of s.control.ring i own x s.running) (cond b (take_of s.control.ring i own s.running) (go_of s.control.ring i own s.running)))
-          ≡ inner s (cond a (Put i x) (cond b (Take i) (cond (eqb k 3) (Go i) (cond (eqb k 4) (Back (Cell i)) (cond (eqb k 5) (Back (Copy i)) (cond (eqb k 6) (Back Tail) Cut))))))
-      by true p b q = put_left x
-      by false p true q = take_left
-      by false p false q = rw (eq-eqb k 3 (third (eqb-false k 1 p) (eqb-false k 2 q))) go_left
-
--- what an event was not refused for
-module _ (g : Ring) where
-  pub below : (k : ℕ) → g.events ≤ run_limit → refuse (full g) 7 k ≡ 0 → g.events < run_limit
-  below k l h = let z = eqb-false g.events run_limit (unrefused (full g) 7 k (lit< tt) h).0 in omega arith
-
-  module _ (i : ℕ) (t : Thread) where
-    pub put_below : (x : ℕ) → g.events ≤ run_limit → put_refusal g i t x ≡ 0 → g.events < run_limit
-    put_below x = below (refuse (no_thread g i) 2 (refuse (not (is_idle t)) 4 (refuse (eqb x 0) 6 0)))
-
-    pub take_below : g.events ≤ run_limit → take_refusal g i t ≡ 0 → g.events < run_limit
-    take_below = below (refuse (no_thread g i) 2 (refuse (not (is_idle t)) 4 0))
-
-    pub go_below : g.events ≤ run_limit → go_refusal g i t ≡ 0 → g.events < run_limit
-    go_below = below (refuse (no_thread g i) 2 (refuse (is_idle t) 5 0))
-
-    pub go_busy : go_refusal g i t ≡ 0 → t.place ≢ 0
-    go_busy h =
-        let a = unrefused (full g) 7 (refuse (no_thread g i) 2 (refuse (is_idle t) 5 0)) (lit< tt) h in
-        let b = unrefused (no_thread g i) 2 (refuse (is_idle t) 5 0) (lit< tt) a.1 in
-        eqb-false t.place 0 (unrefused (is_idle t) 5 0 (lit< tt) b.1).0
 
 -- what a thread's event needs of a sound state
 pub needs_of : (s : State) (i : ℕ) → Sound s → i < max_threads

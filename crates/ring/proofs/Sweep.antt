@@ -9,7 +9,7 @@ module _ {A : Type 0} (f : A → A) where
   abbrev pub sweep_to : List A → ℕ → List A
   sweep_to l k = map f (take k l) ++ drop k l
 
-  pub sweep_next : (l : List A) (k : ℕ) (d : A) → k < length l → set (sweep_to l k) k (f (get_or l k d)) ≡ sweep_to l (suc k)
+  pub sweep_next : (l : List A) (k : ℕ) (d : A) → k < length l → set (sweep_to l k) k (f (get_or (sweep_to l k) k d)) ≡ sweep_to l (suc k)
   sweep_next [] k d h = absurd (omega arith)
   sweep_next (x ∷ l) zero d h = refl
   sweep_next (x ∷ l) (suc k) d h = ap (λ (r : List A). f x ∷ r) (sweep_next l k d (omega arith))

@@ -1,8 +1,6 @@
 -- A put's begin, a take's begin and a step by the ring's numbers and the one thread that they move.
 -- No entry's statement speaks of it: it is proved to be what document 01's events leave.
 use Rattle.std.specs.Prelude.{ℕ, List, cond, eqb}
-use Rattle.rules.specs.declared.Line.{Line}
-use Rattle.rules.specs.declared.Line.TheVariants.{Cell, Copy, Tail}
 use Rattle.rules.specs.declared.Thread.{Thread}
 use Rattle.rules.specs.declared.Ring.{Ring}
 use Rattle.rules.specs.declared.Control.{Control}
@@ -34,17 +32,9 @@ go_of g i t m =
     let r = row g i t m in
     unless (go_refusal g i t) (leaves (moved (counted r.moved.ring) r.moved.thread r.moved.answer) r.running) g t m
 
--- by its kind: 1 a put, 2 a take, 3 a step
-unfoldable pub one_of : ℕ → Ring → ℕ → Thread → ℕ → List ℕ → Step
-one_of k g i t x m = cond (eqb k 1) (put_of g i t x m) (cond (eqb k 2) (take_of g i t m) (go_of g i t m))
-
 -- the record with it, and the whole outcome
 abbrev pub placed : Control → ℕ → Moved → Control
 placed c i r = with_thread (with_ring c r.ring) i r.thread
 
 abbrev pub left : State → ℕ → Step → Out
 left s i r = out (state (placed s.control i r.moved) r.running s.kept) r.moved.answer
-
--- the line of a write-back, by its kind: 4 a cell, 5 a copy, 6 Tail
-unfoldable pub line_of : ℕ → ℕ → Line
-line_of k i = cond (eqb k 4) (Cell i) (cond (eqb k 5) (Copy i) Tail)

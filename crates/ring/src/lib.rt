@@ -1,8 +1,7 @@
-// The machine: public entries, which take anything.
+// The machine: public entries, which take anything. So numbers and images come one by one, as document 01 names them, and in no struct that has an invariant.
 #![tactic(auto)]
 
 mod block;
-mod choose;
 mod events;
 mod fresh;
 mod listing;
@@ -17,128 +16,117 @@ mod sound;
 mod takes;
 
 ghost use Rattle.std.specs.Prelude.{◌≡◌};
+ghost use Rattle.std.specs.Result.{result_unwrap_or};
 ghost use Rattle.rules.specs.Answers.{numbers};
 ghost use Rattle.rules.specs.State.{state, out};
+ghost use Rattle.rules.specs.Refusal.{refusal_of};
 ghost use Rattle.rules.specs.Refusals.{setup_refusal, kept_refusal, listing_refusal};
 ghost use Rattle.rules.specs.Events.{event, setup};
 ghost use Rattle.rules.specs.Listing.{host_kept, listed_count, listed_room};
 ghost use Rattle.rules.specs.Reader.{cell_part};
 ghost use Rattle.rules.specs.Block.{event_count, upto, run_block};
 
-use rules::{Answer, Control, Event, Line, Outcome};
+use rules::{Control, Event, Line, Outcome, Refusal};
 
-// What setup hands back: the record, and 0 or the refusal.
+// What setup hands back: the record, one of zeros where setup is refused.
 #[derive(Clone, Copy)]
 pub struct Started {
     pub control: Control,
-    pub refusal: u32,
+    pub done: Result<(), Refusal>,
 }
 
 // A fresh ring: the control record, and both images made fresh.
 #[tactic(auto, unfolding(rules::specs::Events::setup, rules::specs::Events::fresh_state))]
 pub fn setup(cells: u32, threads: u32, tries: u32, running: &mut [u32], kept: &mut [u32]) -> Started
-    ensures refusal { result.refusal ≡ setup_refusal cells threads tries running.old kept.old }
+    ensures refusal { refusal_of result.done ≡ setup_refusal cells threads tries running.old kept.old }
     ensures left { state result.control running.new kept.new ≡ setup cells threads tries running.old kept.old }
 {
-    let refusal = refusals::of_setup(cells, threads, tries, running, kept);
-    if refusal != 0 {
-        let control = Control::fresh(0, 0, 0);
-        return Started { control, refusal };
+    match refusals::of_setup(cells, threads, tries, running, kept) {
+        Err(r) => Started {
+            control: Control::fresh(0, 0, 0),
+            done: Err(r),
+        },
+        Ok(shape) => {
+            fresh::image(shape, running);
+            fresh::image(shape, kept);
+            Started {
+                control: Control::fresh(cells, threads, tries),
+                done: Ok(()),
+            }
+        }
     }
-    fresh::image(cells, threads, running);
-    fresh::image(cells, threads, kept);
-    let control = Control::fresh(cells, threads, tries);
-    Started { control, refusal }
 }
 
-// Any event.
+// Any event. Each entry below tests soundness and then does its event; no one function holds the six, since an image that an entry does not change is lent it shared.
+#[tactic(auto, using(crate::proofs::Entries::entry))]
 pub fn event(control: Control, running: &mut [u32], kept: &mut [u32], e: Event) -> Outcome
     ensures outcome { out (state result.control running.new kept.new) result.answer ≡ event (state control running.old kept.old) e }
     ensures answer_numbers { numbers result.answer ≡ numbers (event (state control running.old kept.old) e).answer }
 {
-    let k = refusals::unsound(control, running, kept);
-    if k != 0 {
-        return Outcome {
-            control,
-            answer: Answer::Refused(k),
-        };
+    match refusals::unsound(control, running, kept) {
+        Err(r) => events::refused(control, r),
+        Ok(()) => events::any(control, running, kept, e),
     }
-    events::any(control, running, kept, e)
 }
 
 // Begin a put.
+#[tactic(auto, using(crate::proofs::Entries::entry))]
 pub fn put(control: Control, running: &[u32], kept: &[u32], thread: u32, item: u32) -> Outcome
     ensures outcome { out (state result.control running.now kept.now) result.answer ≡ event (state control running.now kept.now) (Event.Put thread item) }
     ensures answer_numbers { numbers result.answer ≡ numbers (event (state control running.now kept.now) (Event.Put thread item)).answer }
 {
-    let k = refusals::unsound(control, running, kept);
-    if k != 0 {
-        return Outcome {
-            control,
-            answer: Answer::Refused(k),
-        };
+    match refusals::unsound(control, running, kept) {
+        Err(r) => events::refused(control, r),
+        Ok(()) => events::put(control, running, kept, thread, item),
     }
-    events::put(control, running, kept, thread, item)
 }
 
 // Begin a take.
+#[tactic(auto, using(crate::proofs::Entries::entry))]
 pub fn take(control: Control, running: &[u32], kept: &[u32], thread: u32) -> Outcome
     ensures outcome { out (state result.control running.now kept.now) result.answer ≡ event (state control running.now kept.now) (Event.Take thread) }
     ensures answer_numbers { numbers result.answer ≡ numbers (event (state control running.now kept.now) (Event.Take thread)).answer }
 {
-    let k = refusals::unsound(control, running, kept);
-    if k != 0 {
-        return Outcome {
-            control,
-            answer: Answer::Refused(k),
-        };
+    match refusals::unsound(control, running, kept) {
+        Err(r) => events::refused(control, r),
+        Ok(()) => events::take(control, running, kept, thread),
     }
-    events::take(control, running, kept, thread)
 }
 
 // Step a thread.
+#[tactic(auto, using(crate::proofs::Entries::entry))]
 pub fn go(control: Control, running: &mut [u32], kept: &[u32], thread: u32) -> Outcome
     ensures outcome { out (state result.control running.new kept.now) result.answer ≡ event (state control running.old kept.now) (Event.Go thread) }
     ensures answer_numbers { numbers result.answer ≡ numbers (event (state control running.old kept.now) (Event.Go thread)).answer }
 {
-    let k = refusals::unsound(control, running, kept);
-    if k != 0 {
-        return Outcome {
-            control,
-            answer: Answer::Refused(k),
-        };
+    match refusals::unsound(control, running, kept) {
+        Err(r) => events::refused(control, r),
+        Ok(()) => events::go(control, running, kept, thread),
     }
-    events::go(control, running, kept, thread)
 }
 
 // Write back a line.
+#[tactic(auto, using(crate::proofs::Entries::entry))]
 pub fn back(control: Control, running: &[u32], kept: &mut [u32], line: Line) -> Outcome
     ensures outcome { out (state result.control running.now kept.new) result.answer ≡ event (state control running.now kept.old) (Event.Back line) }
     ensures answer_numbers { numbers result.answer ≡ numbers (event (state control running.now kept.old) (Event.Back line)).answer }
 {
-    let k = refusals::unsound(control, running, kept);
-    if k != 0 {
-        return Outcome {
-            control,
-            answer: Answer::Refused(k),
-        };
+    match refusals::unsound(control, running, kept) {
+        Err(r) => events::refused(control, r),
+        Ok(()) => events::back(control, running, kept, line),
     }
-    events::back(control, running, kept, line)
 }
 
 // A power cut.
+#[tactic(auto, using(crate::proofs::Entries::entry))]
 pub fn cut(control: Control, running: &mut [u32], kept: &mut [u32]) -> Outcome
     ensures outcome { out (state result.control running.new kept.new) result.answer ≡ event (state control running.old kept.old) Event.Cut }
     ensures answer_numbers { numbers result.answer ≡ numbers (event (state control running.old kept.old) Event.Cut).answer }
 {
-    let k = refusals::unsound(control, running, kept);
-    if k != 0 {
-        return Outcome {
-            control,
-            answer: Answer::Refused(k),
-        };
+    match refusals::unsound(control, running, kept) {
+        Err(r) => events::refused(control, r),
+        Ok(()) => events::cut(control, running, kept),
     }
-    events::cut(control, running, kept)
 }
 
 // What a block hands back: the record, and how many events were run.
@@ -161,37 +149,36 @@ pub fn run(
     ensures left { upto (state result.control running.new kept.new) room.new ≡ run_block (state control running.old kept.old) block.now room.old }
 {
     let count = block::event_count(block, room);
-    let k = refusals::unsound(control, running, kept);
-    if k != 0 {
-        block::refuse_to(k, block, room, count);
-        return Ran { control, count };
+    match refusals::unsound(control, running, kept) {
+        Err(r) => {
+            block::refuse_to(r, block, room, count);
+            Ran { control, count }
+        }
+        Ok(()) => Ran {
+            control: block::run_to(control, running, kept, block, room, count),
+            count,
+        },
     }
-    let control = block::run_to(control, running, kept, block, room, count);
-    Ran { control, count }
 }
 
-// Recovery of a kept image alone: 0, and the image as a cut would leave it, or the refusal.
+// Recovery of a kept image alone: the image as a cut would leave it.
 #[tactic(auto, unfolding(rules::specs::Listing::host_kept))]
-pub fn recover(cells: u32, threads: u32, tries: u32, events: u32, kept: &mut [u32]) -> u32
-    ensures refusal { result ≡ kept_refusal cells threads tries events kept.old }
+pub fn recover(
+    cells: u32,
+    threads: u32,
+    tries: u32,
+    events: u32,
+    kept: &mut [u32],
+) -> Result<(), Refusal>
+    ensures refusal { refusal_of result ≡ kept_refusal cells threads tries events kept.old }
     ensures kept { kept.new ≡ host_kept cells threads tries events kept.old }
 {
-    let k = refusals::of_kept(cells, threads, tries, events, kept);
-    if k != 0 {
-        return k;
-    }
-    recovery::recover(cells, threads, kept);
-    0
+    let shape = refusals::of_kept(cells, threads, tries, events, kept)?;
+    recovery::recover(shape, kept);
+    Ok(())
 }
 
-// What the listing hands back: 0 or the refusal, and the count.
-#[derive(Clone, Copy)]
-pub struct Listed {
-    pub refusal: u32,
-    pub count: u32,
-}
-
-// The items that a cut now would queue, into the room.
+// The items that a cut now would queue, into the room: their count.
 #[tactic(auto, unfolding(rules::specs::Listing::listed_count, rules::specs::Listing::listed_room, rules::specs::Listing::in_front))]
 pub fn list(
     cells: u32,
@@ -200,18 +187,14 @@ pub fn list(
     events: u32,
     kept: &[u32],
     room: &mut [u32],
-) -> Listed
-    ensures refusal { result.refusal ≡ listing_refusal cells threads tries events kept.now room.old }
-    ensures count { result.count ≡ listed_count cells threads tries events kept.now room.old }
+) -> Result<u32, Refusal>
+    ensures refusal { refusal_of result ≡ listing_refusal cells threads tries events kept.now room.old }
+    ensures count { result_unwrap_or result 0 ≡ listed_count cells threads tries events kept.now room.old }
     ensures room { room.new ≡ listed_room cells threads tries events kept.now room.old }
 {
-    let refusal = refusals::of_listing(cells, threads, tries, events, kept, room.len());
-    if refusal != 0 {
-        return Listed { refusal, count: 0 };
-    }
-    let mark = recovery::pass_mark(cells, threads, kept);
-    let count = listing::write_items(cells, mark, kept, room);
-    Listed { refusal, count }
+    let shape = refusals::of_listing(cells, threads, tries, events, kept, room.len())?;
+    let mark = recovery::pass_mark(shape, kept);
+    Ok(listing::write_items(shape, mark, kept, room))
 }
 
 // The four numbers of one cell, as part of the image that is told (true: kept, false: running); a part of length 0 is the refusal.

@@ -1,240 +1,149 @@
 // The put rows, P1 to P10.
 ghost use Rattle.std.specs.Prelude.{◌≡◌, List, ℕ, ◌<◌};
 ghost use Rattle.rules.specs.Facts.{Ready, SoundRing};
-ghost use Rattle.rules.specs.Table.{leaves, trying, row_p1, row_p2, row_p3, row_p4, row_p5, row_p6, row_p7, row_p8, row_p9, row_p10, put_row};
+ghost use Rattle.rules.specs.Table.{leaves, row_p1, row_p2, row_p3, row_p4, row_p5, row_p6, row_p7, row_p8, row_p9, row_p10, put_row};
 
-use crate::{choose, memory, rows};
-use rules::{Answer, By, Cell, Line, Moved, Ring, Thread};
+use crate::rows::Turn;
+use rules::places::{P1, P2, P3, P4, P5, P6, P7, P8, P9, P10};
+use rules::{Answer, Cell, Line, Moved};
 
 // P1: draws Tail.
 #[tactic(auto, unfolding(rules::specs::Table::row_p1))]
-fn p1(g: Ring, who: u32, t: Thread, m: &mut [u32]) -> Moved
-    requires { Ready g who t m.old }
-    ensures { leaves result m.new ≡ row_p1 g who t m.old }
+fn p1(mut t: Turn, m: &mut [u32]) -> Moved
+    requires { Ready t.ring t.who t.thread m.old }
+    ensures { leaves result m.new ≡ row_p1 t.ring t.who t.thread m.old }
 {
-    let closed = memory::closed_at(g.cells, g.threads, m);
-    let tail = memory::tail_at(g.cells, g.threads, m);
-    memory::set_tail(g.cells, g.threads, m, tail + 1);
-    let thread = rows::with_number(t, tail, choose::pick(closed == 1, 7, 2));
-    Moved {
-        ring: g,
-        thread,
-        answer: Answer::Drew(By {
-            thread: who,
-            number: tail,
-        }),
-    }
+    let tail = t.shape().tail(m);
+    let closed = t.shape().closed(m);
+    t.shape().set_tail(m, tail + 1);
+    t.thread.number = tail;
+    t.thread.looked = Cell::default();
+    let place = if closed == 1 { P7 } else { P2 };
+    t.to(place, Answer::Drew(t.by()))
 }
 
 // P2: looks at the cell.
 #[tactic(auto, unfolding(rules::specs::Table::row_p2))]
-fn p2(g: Ring, who: u32, t: Thread, m: &[u32]) -> Moved
-    requires { Ready g who t m.now }
-    ensures { leaves result m.now ≡ row_p2 g who t m.now }
+fn p2(mut t: Turn, m: &[u32]) -> Moved
+    requires { Ready t.ring t.who t.thread m.now }
+    ensures { leaves result m.now ≡ row_p2 t.ring t.who t.thread m.now }
 {
-    let j = memory::place_of(t.number, g.cells);
-    let c = memory::load(g.cells, m, j);
-    let open = choose::both(c.item == 0, c.index <= t.number);
-    let thread = rows::with_look(t, c, choose::pick(open, choose::pick(c.safe == 1, 4, 3), 8));
-    Moved {
-        ring: g,
-        thread,
-        answer: Answer::Looked(
-            By {
-                thread: who,
-                number: t.number,
-            },
-            j,
-        ),
-    }
+    let c = t.cell(m);
+    t.thread.looked = c;
+    let place = if c.item == 0 && c.index <= t.thread.number {
+        if c.safe == 1 { P4 } else { P3 }
+    } else {
+        P8
+    };
+    t.to(place, Answer::Looked(t.by(), t.spot()))
 }
 
 // P3: compares Head.
 #[tactic(auto, unfolding(rules::specs::Table::row_p3))]
-fn p3(g: Ring, who: u32, t: Thread) -> Moved
-    ensures { (m : List ℕ) → leaves result m ≡ row_p3 g who t m }
+fn p3(t: Turn) -> Moved
+    ensures { (m : List ℕ) → leaves result m ≡ row_p3 t.ring t.who t.thread m }
 {
-    let thread = rows::at(t, choose::pick(g.head <= t.number, 4, 8));
-    Moved {
-        ring: g,
-        thread,
-        answer: Answer::SawHead(
-            By {
-                thread: who,
-                number: t.number,
-            },
-            g.head,
-        ),
-    }
+    let head = t.ring.head;
+    let place = if head <= t.thread.number { P4 } else { P8 };
+    t.to(place, Answer::SawHead(t.by(), head))
 }
 
 // P4: lands, if the cell still matches.
 #[tactic(auto, unfolding(rules::specs::Table::row_p4))]
-fn p4(g: Ring, who: u32, t: Thread, m: &mut [u32]) -> Moved
-    requires { Ready g who t m.old }
-    ensures { leaves result m.new ≡ row_p4 g who t m.old }
+fn p4(t: Turn, m: &mut [u32]) -> Moved
+    requires { Ready t.ring t.who t.thread m.old }
+    ensures { leaves result m.new ≡ row_p4 t.ring t.who t.thread m.old }
 {
-    let j = memory::place_of(t.number, g.cells);
-    let c = memory::load(g.cells, m, j);
-    let looked = t.looked;
-    let by = By {
-        thread: who,
-        number: t.number,
+    let Some(c) = t.matching(m) else {
+        return t.missed(P8);
     };
-    if rows::same(c, looked) {
-        memory::store(
-            g.cells,
-            m,
-            j,
-            Cell {
-                safe: 1,
-                index: t.number,
-                item: t.item,
-                mark: c.mark,
-            },
-        );
-        let thread = rows::at(t, 5);
-        return Moved {
-            ring: g,
-            thread,
-            answer: Answer::Landed(by, j, t.item),
-        };
-    }
-    let thread = rows::at(t, 8);
-    Moved {
-        ring: g,
-        thread,
-        answer: Answer::Missed(by, j),
-    }
+    let landed = Cell {
+        safe: 1,
+        index: t.thread.number,
+        item: t.thread.item,
+        ..c
+    };
+    t.set_cell(m, landed);
+    t.to(P5, Answer::Landed(t.by(), t.spot(), t.thread.item))
 }
 
 // P5: asks for the cell.
 #[tactic(auto, unfolding(rules::specs::Table::row_p5))]
-fn p5(g: Ring, who: u32, t: Thread) -> Moved
-    requires { 0 < g.cells }
-    ensures { (m : List ℕ) → leaves result m ≡ row_p5 g who t m }
+fn p5(mut t: Turn) -> Moved
+    requires { 0 < t.ring.cells }
+    ensures { (m : List ℕ) → leaves result m ≡ row_p5 t.ring t.who t.thread m }
 {
-    let j = memory::place_of(t.number, g.cells);
-    let thread = rows::with_wait(t, Line::Cell(j), 6);
-    Moved {
-        ring: g,
-        thread,
-        answer: Answer::Asked(By {
-            thread: who,
-            number: t.number,
-        }),
-    }
+    t.thread.awaited = Line::Cell(t.spot());
+    t.to(P6, Answer::Asked(t.by()))
 }
 
 // P6: waits, then OK.
 #[tactic(auto, unfolding(rules::specs::Table::row_p6))]
-fn p6(g: Ring, who: u32, t: Thread) -> Moved
-    ensures { (m : List ℕ) → leaves result m ≡ row_p6 g who t m }
+fn p6(t: Turn) -> Moved
+    ensures { (m : List ℕ) → leaves result m ≡ row_p6 t.ring t.who t.thread m }
 {
-    let by = By {
-        thread: who,
-        number: t.number,
-    };
-    rows::wait(g, who, t, Answer::Ok(by, t.item))
+    t.wait(Answer::Ok(t.by(), t.thread.item))
 }
 
 // P7: asks for the Tail line.
 #[tactic(auto, unfolding(rules::specs::Table::row_p7))]
-fn p7(g: Ring, who: u32, t: Thread) -> Moved
-    ensures { (m : List ℕ) → leaves result m ≡ row_p7 g who t m }
+fn p7(mut t: Turn) -> Moved
+    ensures { (m : List ℕ) → leaves result m ≡ row_p7 t.ring t.who t.thread m }
 {
-    let thread = rows::with_wait(t, Line::Tail, 10);
-    Moved {
-        ring: g,
-        thread,
-        answer: Answer::Asked(By {
-            thread: who,
-            number: t.number,
-        }),
-    }
-}
-
-// The thread after a try.
-fn tried(t: Thread, tries: u32, place: u32) -> Thread
-    ensures { result ≡ trying t tries place }
-{
-    let mut n = t;
-    n.place = place;
-    n.tries = tries;
-    n
+    t.thread.awaited = Line::Tail;
+    t.to(P10, Answer::Asked(t.by()))
 }
 
 // P8: tries again, or gives up.
-fn p8(g: Ring, who: u32, t: Thread) -> Moved
-    requires { SoundRing g × (t.tries < g.tries) }
-    ensures { (m : List ℕ) → leaves result m ≡ row_p8 g who t m }
+#[tactic(auto, unfolding(rules::specs::Table::row_p8))]
+fn p8(mut t: Turn) -> Moved
+    requires { SoundRing t.ring × (t.thread.tries < t.ring.tries) }
+    ensures { (m : List ℕ) → leaves result m ≡ row_p8 t.ring t.who t.thread m }
 {
-    let gives_up = choose::either(g.head + g.cells <= t.number, t.tries + 1 == g.tries);
-    let thread = tried(
-        t,
-        choose::pick(gives_up, g.tries - 1, t.tries + 1),
-        choose::pick(gives_up, 9, 1),
-    );
-    Moved {
-        ring: g,
-        thread,
-        answer: Answer::SawHead(
-            By {
-                thread: who,
-                number: t.number,
-            },
-            g.head,
-        ),
+    let g = t.ring;
+    let saw = Answer::SawHead(t.by(), g.head);
+    t.thread.tries += 1;
+    if g.head + g.cells <= t.thread.number || t.thread.tries == g.tries {
+        t.thread.tries = g.tries - 1;
+        return t.to(P9, saw);
     }
+    t.to(P1, saw)
 }
 
 // P9: sets closed.
 #[tactic(auto, unfolding(rules::specs::Table::row_p9))]
-fn p9(g: Ring, who: u32, t: Thread, m: &mut [u32]) -> Moved
-    requires { Ready g who t m.old }
-    ensures { leaves result m.new ≡ row_p9 g who t m.old }
+fn p9(t: Turn, m: &mut [u32]) -> Moved
+    requires { Ready t.ring t.who t.thread m.old }
+    ensures { leaves result m.new ≡ row_p9 t.ring t.who t.thread m.old }
 {
-    memory::set_closed(g.cells, g.threads, m, 1);
-    let thread = rows::at(t, 7);
-    Moved {
-        ring: g,
-        thread,
-        answer: Answer::SetClosed(By {
-            thread: who,
-            number: t.number,
-        }),
-    }
+    t.shape().set_closed(m, 1);
+    t.to(P7, Answer::SetClosed(t.by()))
 }
 
 // P10: waits, then CLOSED.
 #[tactic(auto, unfolding(rules::specs::Table::row_p10))]
-fn p10(g: Ring, who: u32, t: Thread) -> Moved
-    ensures { (m : List ℕ) → leaves result m ≡ row_p10 g who t m }
+fn p10(t: Turn) -> Moved
+    ensures { (m : List ℕ) → leaves result m ≡ row_p10 t.ring t.who t.thread m }
 {
-    let by = By {
-        thread: who,
-        number: t.number,
-    };
-    rows::wait(g, who, t, Answer::Closed(by))
+    t.wait(Answer::Closed(t.by()))
 }
 
 // The row of a put place.
 #[tactic(auto, unfolding(rules::specs::Table::put_row))]
-pub fn put_row(g: Ring, who: u32, t: Thread, m: &mut [u32]) -> Moved
-    requires { Ready g who t m.old }
-    ensures { leaves result m.new ≡ put_row g who t m.old }
+pub fn put_row(t: Turn, m: &mut [u32]) -> Moved
+    requires { Ready t.ring t.who t.thread m.old }
+    ensures { leaves result m.new ≡ put_row t.ring t.who t.thread m.old }
 {
-    let place = t.place;
-    match place {
-        1 => p1(g, who, t, m),
-        2 => p2(g, who, t, m),
-        3 => p3(g, who, t),
-        4 => p4(g, who, t, m),
-        5 => p5(g, who, t),
-        6 => p6(g, who, t),
-        7 => p7(g, who, t),
-        8 => p8(g, who, t),
-        9 => p9(g, who, t, m),
-        _ => p10(g, who, t),
+    match t.thread.place {
+        P1 => p1(t, m),
+        P2 => p2(t, m),
+        P3 => p3(t),
+        P4 => p4(t, m),
+        P5 => p5(t),
+        P6 => p6(t),
+        P7 => p7(t),
+        P8 => p8(t),
+        P9 => p9(t, m),
+        _ => p10(t),
     }
 }

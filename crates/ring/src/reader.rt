@@ -3,7 +3,6 @@ ghost use Rattle.std.specs.Prelude.{◌≡◌, cond, []};
 ghost use Rattle.rules.specs.Memory.{cell_numbers};
 ghost use Rattle.rules.specs.Reader.{readable, cell_part};
 
-use crate::choose;
 use rules::Control;
 
 // R is in range, the cell is one of R, and the image has them all.
@@ -11,21 +10,20 @@ use rules::Control;
 fn is_readable(cells: u32, cell: u32, m: &[u32]) -> bool
     ensures { result ≡ readable cells cell m.now }
 {
-    let fits = choose::both(cell < cells, 4 * (cells as usize) <= m.len());
-    choose::both(1 <= cells, choose::both(cells <= Control::MAX_CELLS, fits))
+    1 <= cells && cells <= Control::MAX_CELLS && cell < cells && 4 * (cells as usize) <= m.len()
 }
 
 // The cell's four numbers as part of the image, or a part of length 0.
-#[tactic(auto, unfolding(rules::specs::Memory::cell_numbers))]
+#[tactic(auto, using(crate::proofs::Laws::part_fits), unfolding(rules::specs::Memory::cell_numbers))]
 fn part_of<'a>(cells: u32, cell: u32, m: &'a [u32]) -> &'a [u32]
     ensures { result.now ≡ cond (readable cells cell m.now) (cell_numbers cells m.now cell) [] }
 {
     if is_readable(cells, cell, m) {
         let a = 4 * (cell as usize);
-        let e = a + 4;
-        return &m[a..e];
+        &m[a..a + 4]
+    } else {
+        &[]
     }
-    &m[..0]
 }
 
 // The part of the image that is told: the kept one, or the running one.

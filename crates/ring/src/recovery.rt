@@ -1,47 +1,38 @@
 // What a cut reads from the kept image, and what it leaves there.
-ghost use Rattle.std.specs.Prelude.{◌≡◌, ℕ, ◌≤◌, ◌+◌, ◌*◌, ◌<◌, length};
-ghost use Rattle.rules.specs.Numbers.{max_cells, max_threads, run_limit};
+ghost use Rattle.std.specs.Prelude.{◌≡◌, ◌≤◌, ◌+◌, ◌*◌, length, take};
+ghost use Rattle.std.specs.List.{All};
 ghost use Rattle.rules.specs.Upto.{max_to};
-ghost use Rattle.rules.specs.Memory.{size, cell_at, copy_at, cells_to, copies_to};
+ghost use Rattle.rules.specs.Memory.{size, cell_at, copy_at};
 ghost use Rattle.rules.specs.Cut.{pass_mark, queued, tail_of, head_to, count_of, finds, mended, recovered};
+ghost use Rattle.ring.specs.Cells.{cells_in, IndexFits, IndexesFit};
 
-use crate::{choose, memory};
+use crate::memory::Shape;
 use rules::{Cell, Found};
 
 // The largest mark.
-fn top_mark(cells: u32, m: &[u32]) -> u32
-    requires { (cells ≤ max_cells) × (4 * cells ≤ length m.now) }
-    ensures { result ≡ max_to (λ j. (cell_at cells m.now j).mark) cells }
+fn top_mark(s: Shape, m: &[u32]) -> u32
+    requires { 4 * s.cells ≤ length m.now }
+    ensures { result ≡ max_to (λ j. (cell_at s.cells m.now j).mark) s.cells }
 {
-    let mut top = 0;
-    for j in 0..cells {
-        let c = memory::load(cells, m, j);
-        top = choose::larger(top, c.mark);
-    }
-    top
+    s.all_cells(m).fold(0, |top, c| top.max(c.mark))
 }
 
 // The largest copy.
-fn top_copy(cells: u32, threads: u32, m: &[u32]) -> u32
-    requires { (cells ≤ max_cells) × (threads ≤ max_threads) × (4 * cells + threads ≤ length m.now) }
-    ensures { result ≡ max_to (copy_at cells m.now) threads }
+#[tactic(auto, using(crate::proofs::Images::top_copy_is))]
+fn top_copy(s: Shape, m: &[u32]) -> u32
+    requires { 4 * s.cells + s.threads ≤ length m.now }
+    ensures { result ≡ max_to (copy_at s.cells m.now) s.threads }
 {
-    let mut top = 0;
-    for t in 0..threads {
-        top = choose::larger(top, memory::copy_at(cells, m, t));
-    }
-    top
+    s.copies(m).iter().copied().fold(0, u32::max)
 }
 
 // The largest of all marks and copies.
 #[tactic(auto, unfolding(rules::specs::Cut::pass_mark))]
-pub fn pass_mark(cells: u32, threads: u32, m: &[u32]) -> u32
-    requires { (cells ≤ max_cells) × (threads ≤ max_threads) × (size cells threads ≤ length m.now) }
-    ensures { result ≡ pass_mark cells threads m.now }
+pub fn pass_mark(s: Shape, m: &[u32]) -> u32
+    requires { size s.cells s.threads ≤ length m.now }
+    ensures { result ≡ pass_mark s.cells s.threads m.now }
 {
-    let marks = top_mark(cells, m);
-    let copies = top_copy(cells, threads, m);
-    choose::larger(marks, copies)
+    top_mark(s, m).max(top_copy(s, m))
 }
 
 // An occupied cell with index ≥ pass mark.
@@ -49,122 +40,92 @@ pub fn pass_mark(cells: u32, threads: u32, m: &[u32]) -> u32
 pub fn is_queued(mark: u32, c: Cell) -> bool
     ensures { result ≡ queued mark c }
 {
-    choose::both(c.item != 0, mark <= c.index)
+    c.item != 0 && mark <= c.index
 }
 
 // The largest queued index + 1, or the pass mark.
-#[tactic(auto, unfolding(rules::specs::Cut::tail_of))]
-fn tail_of(cells: u32, mark: u32, m: &[u32]) -> u32
-    requires { (cells ≤ max_cells) × (4 * cells ≤ length m.now) × ((j : ℕ) → j < cells → (cell_at cells m.now j).index < run_limit + max_cells) }
-    ensures { result ≡ tail_of cells mark m.now }
+fn tail_of(s: Shape, mark: u32, m: &[u32]) -> u32
+    requires { (4 * s.cells ≤ length m.now) × All IndexFits (cells_in (take (4 * s.cells) m.now)) }
+    ensures { result ≡ tail_of s.cells mark m.now }
 {
-    let mut tail = mark;
-    for j in 0..cells {
-        let c = memory::load(cells, m, j);
-        tail = choose::pick(is_queued(mark, c), choose::larger(tail, c.index + 1), tail);
-    }
-    tail
+    s.all_cells(m)
+        .filter_map(|c| if is_queued(mark, c) {
+            Some(c.index + 1)
+        } else {
+            None
+        })
+        .fold(mark, u32::max)
 }
 
 // The smallest queued index, or Tail.
-fn head_of(cells: u32, mark: u32, tail: u32, m: &[u32]) -> u32
-    requires { (cells ≤ max_cells) × (4 * cells ≤ length m.now) }
-    ensures { result ≡ head_to cells mark tail m.now cells }
+fn head_of(s: Shape, mark: u32, tail: u32, m: &[u32]) -> u32
+    requires { 4 * s.cells ≤ length m.now }
+    ensures { result ≡ head_to s.cells mark tail m.now s.cells }
 {
-    let mut head = tail;
-    for j in 0..cells {
-        let c = memory::load(cells, m, j);
-        head = choose::pick(is_queued(mark, c), choose::smaller(head, c.index), head);
-    }
-    head
+    s.all_cells(m)
+        .filter(|c| is_queued(mark, *c))
+        .fold(tail, |head, c| head.min(c.index))
 }
 
 // How many cells are queued.
-#[tactic(auto, unfolding(rules::specs::Cut::count_of))]
-fn count_of(cells: u32, mark: u32, m: &[u32]) -> u32
-    requires { (cells ≤ max_cells) × (4 * cells ≤ length m.now) }
-    ensures { result ≡ count_of cells mark m.now }
+#[tactic(auto, using(crate::proofs::Images::few_cells))]
+fn count_of(s: Shape, mark: u32, m: &[u32]) -> u32
+    requires { 4 * s.cells ≤ length m.now }
+    ensures { result ≡ count_of s.cells mark m.now }
 {
-    let mut count = 0;
-    for j in 0..cells {
-        let c = memory::load(cells, m, j);
-        count = choose::pick(is_queued(mark, c), count + 1, count);
-    }
-    count
+    s.all_cells(m).filter(|c| is_queued(mark, *c)).count() as u32
 }
 
 // What a cut of the kept image finds.
-#[tactic(auto, unfolding(rules::specs::Cut::finds, rules::specs::Cut::head_of))]
-pub fn find(cells: u32, threads: u32, m: &[u32]) -> Found
-    requires { (cells ≤ max_cells) × (threads ≤ max_threads) × (size cells threads ≤ length m.now) × ((j : ℕ) → j < cells → (cell_at cells m.now j).index < run_limit + max_cells) }
-    ensures { result ≡ finds cells threads m.now }
+#[tactic(auto, using(crate::proofs::Images::low_cells), unfolding(rules::specs::Cut::finds, rules::specs::Cut::head_of))]
+fn find(s: Shape, m: &[u32]) -> Found
+    requires { (size s.cells s.threads ≤ length m.now) × IndexesFit s.cells m.now }
+    ensures { result ≡ finds s.cells s.threads m.now }
 {
-    let mark = pass_mark(cells, threads, m);
-    let tail = tail_of(cells, mark, m);
-    let head = head_of(cells, mark, tail, m);
+    let mark = pass_mark(s, m);
+    let tail = tail_of(s, mark, m);
+    let head = head_of(s, mark, tail, m);
     Found {
         mark,
         head,
         tail,
-        closed: memory::closed_at(cells, threads, m),
-        count: count_of(cells, mark, m),
+        closed: s.closed(m),
+        count: count_of(s, mark, m),
     }
 }
 
 // A cell as recovery leaves it.
 #[tactic(auto, unfolding(rules::specs::Cut::mended))]
-fn mend(cells: u32, mark: u32, head: u32, c: Cell) -> Cell
-    requires { (cells ≤ max_cells) × (c.index < run_limit + max_cells) }
-    ensures { result ≡ mended cells mark head c }
+fn mend(s: Shape, mark: u32, head: u32, c: Cell) -> Cell
+    requires { IndexFits c }
+    ensures { result ≡ mended s.cells mark head c }
 {
-    if choose::both(c.item != 0, c.index < mark) {
-        return Cell {
+    if c.item != 0 && c.index < mark {
+        Cell {
             safe: 1,
-            index: c.index + cells,
+            index: c.index + s.cells,
             item: 0,
             mark: head,
-        };
-    }
-    Cell {
-        safe: 1,
-        index: c.index,
-        item: c.item,
-        mark: head,
-    }
-}
-
-// All cells as recovery leaves them.
-fn mend_cells(cells: u32, mark: u32, head: u32, m: &mut [u32])
-    requires { (cells ≤ max_cells) × (4 * cells ≤ length m.old) × ((j : ℕ) → j < cells → (cell_at cells m.old j).index < run_limit + max_cells) }
-    ensures { m.new ≡ cells_to cells (λ j. mended cells mark head) m.old cells }
-{
-    for j in 0..cells {
-        let c = memory::load(cells, m, j);
-        let d = mend(cells, mark, head, c);
-        memory::store(cells, m, j, d);
-    }
-}
-
-// Every copy becomes v.
-pub fn set_copies(cells: u32, threads: u32, v: u32, m: &mut [u32])
-    requires { (cells ≤ max_cells) × (threads ≤ max_threads) × (4 * cells + threads ≤ length m.old) }
-    ensures { m.new ≡ copies_to cells v m.old threads }
-{
-    for t in 0..threads {
-        memory::set_copy(cells, m, t, v);
+        }
+    } else {
+        Cell {
+            safe: 1,
+            mark: head,
+            ..c
+        }
     }
 }
 
 // The kept image becomes the recovered one.
 #[tactic(auto, unfolding(rules::specs::Cut::finds, rules::specs::Cut::recovered))]
-pub fn recover(cells: u32, threads: u32, m: &mut [u32]) -> Found
-    requires { (cells ≤ max_cells) × (threads ≤ max_threads) × (size cells threads ≤ length m.old) × ((j : ℕ) → j < cells → (cell_at cells m.old j).index < run_limit + max_cells) }
-    ensures found { result ≡ finds cells threads m.old }
-    ensures image { m.new ≡ recovered cells threads m.old }
+pub fn recover(s: Shape, m: &mut [u32]) -> Found
+    requires { (size s.cells s.threads ≤ length m.old) × IndexesFit s.cells m.old }
+    ensures found { result ≡ finds s.cells s.threads m.old }
+    ensures image { m.new ≡ recovered s.cells s.threads m.old }
 {
-    let f = find(cells, threads, m);
-    mend_cells(cells, f.mark, f.head, m);
-    set_copies(cells, threads, f.head, m);
-    memory::set_tail(cells, threads, m, f.tail);
+    let f = find(s, m);
+    s.map_cells(m, |_, c| mend(s, f.mark, f.head, c));
+    s.set_copies(m, f.head);
+    s.set_tail(m, f.tail);
     f
 }

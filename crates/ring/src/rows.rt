@@ -1,108 +1,123 @@
-// What rows share: a cell that matches, a thread that waits.
-ghost use Rattle.std.specs.Prelude.{◌≡◌, List, ℕ};
-ghost use Rattle.rules.specs.Line.{is_none};
-ghost use Rattle.rules.specs.Table.{leaves, same, to, awaiting, looking, drawing, row_wait};
+// A thread's turn, and what the rows share: its cell, a cell that matches, a thread that waits.
+ghost use Rattle.std.specs.Prelude.{◌≡◌, List, ℕ, ◌<◌, MatchOption, true, false};
+ghost use Rattle.rules.specs.Record.{thread_at};
+ghost use Rattle.rules.specs.Answers.{by};
+ghost use Rattle.rules.specs.Facts.{Ready, SoundRing};
+ghost use Rattle.rules.specs.Memory.{set_cell};
+ghost use Rattle.rules.specs.Table.{leaves, to, spot, cell_of, matches, row_wait};
+ghost use Rattle.ring.specs.OneThread.{moved};
 
-use crate::choose;
-use rules::{Answer, By, Cell, Line, Moved, Ring, Thread};
+use crate::memory::Shape;
+use rules::{Answer, By, Cell, Control, Line, Moved, Ring, Thread};
 
-// All four numbers are equal.
-#[tactic(auto, unfolding(rules::specs::Table::same))]
-pub fn same(c: Cell, d: Cell) -> bool
-    ensures { result ≡ same c d }
-{
-    choose::both(
-        c.safe == d.safe,
-        choose::both(
-            c.index == d.index,
-            choose::both(c.item == d.item, c.mark == d.mark),
-        ),
-    )
+// A thread's turn: the ring's numbers, the thread's number and its record.
+#[derive(Clone, Copy)]
+pub struct Turn {
+    pub ring: Ring,
+    pub who: u32,
+    pub thread: Thread,
 }
 
-// Nothing is awaited.
-pub fn is_none(line: Line) -> bool
-    ensures { result ≡ is_none line }
-{
-    match line {
-        Line::None => true,
-        Line::Cell(_) => false,
-        Line::Copy(_) => false,
-        Line::Tail => false,
+impl Turn {
+    // Thread i's turn.
+    pub fn of(c: Control, i: u32) -> Turn
+        ensures { result ≡ record { ring = c.ring; who = i; thread = thread_at c i } }
+    {
+        Turn {
+            ring: c.ring,
+            who: i,
+            thread: c.thread_at(i),
+        }
     }
-}
 
-// The thread at another place.
-pub fn at(t: Thread, place: u32) -> Thread
-    ensures { result ≡ to t place }
-{
-    let mut n = t;
-    n.place = place;
-    n
-}
-
-// The thread with a number that it has drawn, its looked-at cell zeroed.
-pub fn with_number(t: Thread, number: u32, place: u32) -> Thread
-    ensures { result ≡ drawing t number place }
-{
-    let blank = Cell {
-        safe: 0,
-        index: 0,
-        item: 0,
-        mark: 0,
-    };
-    let mut n = t;
-    n.place = place;
-    n.number = number;
-    n.looked = blank;
-    n
-}
-
-// The thread with the cell that it has looked at.
-pub fn with_look(t: Thread, c: Cell, place: u32) -> Thread
-    ensures { result ≡ looking t c place }
-{
-    let mut n = t;
-    n.place = place;
-    n.looked = c;
-    n
-}
-
-// The thread once it awaits a line.
-pub fn with_wait(t: Thread, line: Line, place: u32) -> Thread
-    ensures { result ≡ awaiting t line place }
-{
-    let c = t.looked;
-    Thread {
-        place,
-        item: t.item,
-        number: t.number,
-        looked: c,
-        tries: t.tries,
-        awaited: line,
+    // The shape of the ring's images.
+    pub fn shape(self) -> Shape
+        requires { SoundRing self.ring }
+        ensures { (result.cells ≡ self.ring.cells) × (result.threads ≡ self.ring.threads) }
+    {
+        Shape::of(self.ring)
     }
-}
 
-// P6, P10, T10: the last answer once nothing is awaited.
-#[tactic(auto, unfolding(rules::specs::Table::row_wait))]
-pub fn wait(g: Ring, who: u32, t: Thread, last: Answer) -> Moved
-    ensures { (m : List ℕ) → leaves result m ≡ row_wait g who t m last }
-{
-    let line = t.awaited;
-    if is_none(line) {
-        let n = Thread::idle();
-        return Moved {
-            ring: g,
-            thread: n,
-            answer: last,
-        };
+    // Whose answer it is.
+    pub fn by(self) -> By
+        ensures { result ≡ by self.who self.thread.number }
+    {
+        By {
+            thread: self.who,
+            number: self.thread.number,
+        }
     }
-    Moved {
-        ring: g,
-        thread: t,
-        answer: Answer::Waiting(By {
-            thread: who,
-            number: t.number,
-        }),
+
+    // The turn ends, and its thread is as it stands.
+    pub fn done(self, answer: Answer) -> Moved
+        ensures { result ≡ moved self.ring self.thread answer }
+    {
+        Moved {
+            ring: self.ring,
+            thread: self.thread,
+            answer,
+        }
+    }
+
+    // The turn ends, and its thread goes to a place.
+    pub fn to(mut self, place: u32, answer: Answer) -> Moved
+        ensures { result ≡ moved self.ring (to self.thread place) answer }
+    {
+        self.thread.place = place;
+        self.done(answer)
+    }
+
+    // Which cell is the thread's: its number mod R.
+    pub fn spot(self) -> u32
+        requires { 0 < self.ring.cells }
+        ensures { (result ≡ spot self.ring self.thread) × (result < self.ring.cells) }
+    {
+        self.thread.number % self.ring.cells
+    }
+
+    // That cell.
+    pub fn cell(self, m: &[u32]) -> Cell
+        requires { Ready self.ring self.who self.thread m.now }
+        ensures { result ≡ cell_of self.ring self.thread m.now }
+    {
+        self.shape().cell(m, self.spot())
+    }
+
+    // That cell becomes c.
+    pub fn set_cell(self, m: &mut [u32], c: Cell)
+        requires { Ready self.ring self.who self.thread m.old }
+        ensures { m.new ≡ set_cell self.ring.cells m.old (spot self.ring self.thread) c }
+    {
+        self.shape().set_cell(m, self.spot(), c);
+    }
+
+    // P4, T3, T4, T5: that cell, if its four numbers are still those last looked at.
+    #[tactic(auto, unfolding(rules::specs::Table::same))]
+    pub fn matching(self, m: &[u32]) -> Option<Cell>
+        requires { Ready self.ring self.who self.thread m.now }
+        ensures { MatchOption result (matches self.ring self.thread m.now ≡ false) (λ c. (matches self.ring self.thread m.now ≡ true) × (c ≡ cell_of self.ring self.thread m.now)) }
+    {
+        let c = self.cell(m);
+        (c == self.thread.looked).then_some(c)
+    }
+
+    // P4, T3, T4, T5: it doesn't match, and the thread goes to a place.
+    pub fn missed(self, place: u32) -> Moved
+        requires { 0 < self.ring.cells }
+        ensures { result ≡ moved self.ring (to self.thread place) (Answer.Missed (by self.who self.thread.number) (spot self.ring self.thread)) }
+    {
+        self.to(place, Answer::Missed(self.by(), self.spot()))
+    }
+
+    // P6, P10, T10: the last answer once nothing is awaited.
+    #[tactic(auto, unfolding(rules::specs::Table::row_wait))]
+    pub fn wait(mut self, last: Answer) -> Moved
+        ensures { (m : List ℕ) → leaves result m ≡ row_wait self.ring self.who self.thread m last }
+    {
+        if self.thread.awaited == Line::None {
+            self.thread = Thread::idle();
+            return self.done(last);
+        }
+        self.done(Answer::Waiting(self.by()))
     }
 }

@@ -1,299 +1,171 @@
 // The take rows, T1 to T10.
-ghost use Rattle.std.specs.Prelude.{◌≡◌, List, ℕ, ◌<◌};
-ghost use Rattle.rules.specs.Facts.{Ready};
+ghost use Rattle.std.specs.Prelude.{◌≡◌, List, ℕ, ◌+◌, ◌<◌, ◌≤◌};
+ghost use Rattle.rules.specs.Facts.{Ready, SoundRing};
 ghost use Rattle.rules.specs.Numbers.{run_limit};
-ghost use Rattle.rules.specs.Table.{leaves, holding, row_t1, row_t2, row_t3, row_t4, row_t5, row_t6, row_t7, row_t8, row_t9, row_t10, take_row};
+ghost use Rattle.rules.specs.Record.{cell};
+ghost use Rattle.rules.specs.Table.{leaves, row_t1, row_t2, row_t3, row_t4, row_t5, row_t6, row_t7, row_t8, row_t9, row_t10, take_row};
 
-use crate::{choose, memory, rows};
-use rules::{Answer, By, Cell, Line, Moved, Ring, Thread};
+use crate::rows::Turn;
+use rules::places::{T1, T2, T3, T4, T5, T6, T7, T8, T9, T10};
+use rules::{Answer, Cell, Line, Moved};
 
 // T1: draws Head.
-#[tactic(auto, unfolding(rules::specs::Table::row_t1))]
-fn t1(g: Ring, who: u32, t: Thread) -> Moved
-    requires { g.head < run_limit }
-    ensures { (m : List ℕ) → leaves result m ≡ row_t1 g who t m }
+#[tactic(auto, using(rules::proofs::Limit::draws_below), unfolding(rules::specs::Table::row_t1))]
+fn t1(mut t: Turn) -> Moved
+    requires { t.ring.head < run_limit }
+    ensures { (m : List ℕ) → leaves result m ≡ row_t1 t.ring t.who t.thread m }
 {
-    let number = g.head;
-    let ring = g.draw();
-    let thread = rows::with_number(t, number, 12);
-    Moved {
-        ring,
-        thread,
-        answer: Answer::Drew(By {
-            thread: who,
-            number,
-        }),
-    }
+    t.thread.number = t.ring.head;
+    t.thread.looked = Cell::default();
+    t.ring = t.ring.draw();
+    t.to(T2, Answer::Drew(t.by()))
 }
 
 // T2: looks at the cell.
 #[tactic(auto, unfolding(rules::specs::Table::row_t2))]
-fn t2(g: Ring, who: u32, t: Thread, m: &[u32]) -> Moved
-    requires { Ready g who t m.now }
-    ensures { leaves result m.now ≡ row_t2 g who t m.now }
+fn t2(mut t: Turn, m: &[u32]) -> Moved
+    requires { Ready t.ring t.who t.thread m.now }
+    ensures { leaves result m.now ≡ row_t2 t.ring t.who t.thread m.now }
 {
-    let j = memory::place_of(t.number, g.cells);
-    let c = memory::load(g.cells, m, j);
-    let mine = choose::pick(c.index == t.number, 13, 14);
-    let place = choose::pick(t.number < c.index, 16, choose::pick(c.item == 0, 15, mine));
-    let thread = rows::with_look(t, c, place);
-    Moved {
-        ring: g,
-        thread,
-        answer: Answer::Looked(
-            By {
-                thread: who,
-                number: t.number,
-            },
-            j,
-        ),
-    }
+    let c = t.cell(m);
+    t.thread.looked = c;
+    let place = if c.index > t.thread.number {
+        T6
+    } else if c.item == 0 {
+        T5
+    } else if c.index == t.thread.number {
+        T3
+    } else {
+        T4
+    };
+    t.to(place, Answer::Looked(t.by(), t.spot()))
 }
 
-// The thread that holds an item.
-fn with_item(t: Thread, item: u32, place: u32) -> Thread
-    ensures { result ≡ holding t item place }
+// T3, T5: what the cell c becomes.
+fn passed(t: Turn, c: Cell) -> Cell
+    requires { SoundRing t.ring × (t.thread.number ≤ t.ring.events) }
+    ensures { result ≡ cell c.safe (t.thread.number + t.ring.cells) 0 (t.thread.number + 1) }
 {
-    let mut n = t;
-    n.place = place;
-    n.item = item;
-    n
+    Cell {
+        index: t.thread.number + t.ring.cells,
+        item: 0,
+        mark: t.thread.number + 1,
+        ..c
+    }
 }
 
 // T3: takes, if the cell still matches.
 #[tactic(auto, unfolding(rules::specs::Table::row_t3))]
-fn t3(g: Ring, who: u32, t: Thread, m: &mut [u32]) -> Moved
-    requires { Ready g who t m.old }
-    ensures { leaves result m.new ≡ row_t3 g who t m.old }
+fn t3(mut t: Turn, m: &mut [u32]) -> Moved
+    requires { Ready t.ring t.who t.thread m.old }
+    ensures { leaves result m.new ≡ row_t3 t.ring t.who t.thread m.old }
 {
-    let j = memory::place_of(t.number, g.cells);
-    let c = memory::load(g.cells, m, j);
-    let looked = t.looked;
-    let by = By {
-        thread: who,
-        number: t.number,
+    let Some(c) = t.matching(m) else {
+        return t.missed(T2);
     };
-    if rows::same(c, looked) {
-        memory::store(
-            g.cells,
-            m,
-            j,
-            Cell {
-                safe: c.safe,
-                index: t.number + g.cells,
-                item: 0,
-                mark: t.number + 1,
-            },
-        );
-        let thread = with_item(t, c.item, 18);
-        return Moved {
-            ring: g,
-            thread,
-            answer: Answer::Took(by, j, c.item),
-        };
-    }
-    let thread = rows::at(t, 12);
-    Moved {
-        ring: g,
-        thread,
-        answer: Answer::Missed(by, j),
-    }
+    t.set_cell(m, passed(t, c));
+    t.thread.item = c.item;
+    t.to(T8, Answer::Took(t.by(), t.spot(), c.item))
 }
 
 // T4: flags, if the cell still matches.
 #[tactic(auto, unfolding(rules::specs::Table::row_t4))]
-fn t4(g: Ring, who: u32, t: Thread, m: &mut [u32]) -> Moved
-    requires { Ready g who t m.old }
-    ensures { leaves result m.new ≡ row_t4 g who t m.old }
+fn t4(t: Turn, m: &mut [u32]) -> Moved
+    requires { Ready t.ring t.who t.thread m.old }
+    ensures { leaves result m.new ≡ row_t4 t.ring t.who t.thread m.old }
 {
-    let j = memory::place_of(t.number, g.cells);
-    let c = memory::load(g.cells, m, j);
-    let looked = t.looked;
-    let by = By {
-        thread: who,
-        number: t.number,
+    let Some(c) = t.matching(m) else {
+        return t.missed(T2);
     };
-    if rows::same(c, looked) {
-        memory::store(
-            g.cells,
-            m,
-            j,
-            Cell {
-                safe: 0,
-                index: c.index,
-                item: c.item,
-                mark: c.mark,
-            },
-        );
-        let thread = rows::at(t, 16);
-        return Moved {
-            ring: g,
-            thread,
-            answer: Answer::Flagged(by, j),
-        };
-    }
-    let thread = rows::at(t, 12);
-    Moved {
-        ring: g,
-        thread,
-        answer: Answer::Missed(by, j),
-    }
+    t.set_cell(m, Cell { safe: 0, ..c });
+    t.to(T6, Answer::Flagged(t.by(), t.spot()))
 }
 
 // T5: passes, if the cell still matches.
 #[tactic(auto, unfolding(rules::specs::Table::row_t5))]
-fn t5(g: Ring, who: u32, t: Thread, m: &mut [u32]) -> Moved
-    requires { Ready g who t m.old }
-    ensures { leaves result m.new ≡ row_t5 g who t m.old }
+fn t5(t: Turn, m: &mut [u32]) -> Moved
+    requires { Ready t.ring t.who t.thread m.old }
+    ensures { leaves result m.new ≡ row_t5 t.ring t.who t.thread m.old }
 {
-    let j = memory::place_of(t.number, g.cells);
-    let c = memory::load(g.cells, m, j);
-    let looked = t.looked;
-    let by = By {
-        thread: who,
-        number: t.number,
+    let Some(c) = t.matching(m) else {
+        return t.missed(T2);
     };
-    if rows::same(c, looked) {
-        memory::store(
-            g.cells,
-            m,
-            j,
-            Cell {
-                safe: c.safe,
-                index: t.number + g.cells,
-                item: 0,
-                mark: t.number + 1,
-            },
-        );
-        let thread = rows::at(t, 16);
-        return Moved {
-            ring: g,
-            thread,
-            answer: Answer::Passed(by, j),
-        };
-    }
-    let thread = rows::at(t, 12);
-    Moved {
-        ring: g,
-        thread,
-        answer: Answer::Missed(by, j),
-    }
+    t.set_cell(m, passed(t, c));
+    t.to(T6, Answer::Passed(t.by(), t.spot()))
 }
 
 // T6: compares Tail.
 #[tactic(auto, unfolding(rules::specs::Table::row_t6))]
-fn t6(g: Ring, who: u32, t: Thread, m: &[u32]) -> Moved
-    requires { Ready g who t m.now }
-    ensures { leaves result m.now ≡ row_t6 g who t m.now }
+fn t6(t: Turn, m: &[u32]) -> Moved
+    requires { Ready t.ring t.who t.thread m.now }
+    ensures { leaves result m.now ≡ row_t6 t.ring t.who t.thread m.now }
 {
-    let tail = memory::tail_at(g.cells, g.threads, m);
-    let thread = rows::at(t, choose::pick(tail <= t.number + 1, 17, 11));
-    Moved {
-        ring: g,
-        thread,
-        answer: Answer::SawTail(
-            By {
-                thread: who,
-                number: t.number,
-            },
-            tail,
-        ),
-    }
+    let tail = t.shape().tail(m);
+    let place = if tail <= t.thread.number + 1 { T7 } else { T1 };
+    t.to(place, Answer::SawTail(t.by(), tail))
 }
 
 // T7: lifts Tail.
 #[tactic(auto, unfolding(rules::specs::Table::row_t7))]
-fn t7(g: Ring, who: u32, t: Thread, m: &mut [u32]) -> Moved
-    requires { Ready g who t m.old }
-    ensures { leaves result m.new ≡ row_t7 g who t m.old }
+fn t7(t: Turn, m: &mut [u32]) -> Moved
+    requires { Ready t.ring t.who t.thread m.old }
+    ensures { leaves result m.new ≡ row_t7 t.ring t.who t.thread m.old }
 {
-    let tail = choose::larger(memory::tail_at(g.cells, g.threads, m), g.head);
-    memory::set_tail(g.cells, g.threads, m, tail);
-    let thread = rows::at(t, 18);
-    Moved {
-        ring: g,
-        thread,
-        answer: Answer::Lifted(
-            By {
-                thread: who,
-                number: t.number,
-            },
-            tail,
-        ),
-    }
+    let tail = t.shape().tail(m).max(t.ring.head);
+    t.shape().set_tail(m, tail);
+    t.to(T8, Answer::Lifted(t.by(), tail))
 }
 
 // T8: sets its own copy of Head.
 #[tactic(auto, unfolding(rules::specs::Table::row_t8))]
-fn t8(g: Ring, who: u32, t: Thread, m: &mut [u32]) -> Moved
-    requires { Ready g who t m.old }
-    ensures { leaves result m.new ≡ row_t8 g who t m.old }
+fn t8(t: Turn, m: &mut [u32]) -> Moved
+    requires { Ready t.ring t.who t.thread m.old }
+    ensures { leaves result m.new ≡ row_t8 t.ring t.who t.thread m.old }
 {
-    let next = t.number + 1;
-    memory::set_copy(g.cells, m, who, next);
-    let thread = rows::at(t, 19);
-    Moved {
-        ring: g,
-        thread,
-        answer: Answer::Copied(
-            By {
-                thread: who,
-                number: t.number,
-            },
-            next,
-        ),
-    }
+    let next = t.thread.number + 1;
+    t.shape().set_copy(m, t.who, next);
+    t.to(T9, Answer::Copied(t.by(), next))
 }
 
 // T9: asks for its own copy.
 #[tactic(auto, unfolding(rules::specs::Table::row_t9))]
-fn t9(g: Ring, who: u32, t: Thread) -> Moved
-    ensures { (m : List ℕ) → leaves result m ≡ row_t9 g who t m }
+fn t9(mut t: Turn) -> Moved
+    ensures { (m : List ℕ) → leaves result m ≡ row_t9 t.ring t.who t.thread m }
 {
-    let thread = rows::with_wait(t, Line::Copy(who), 20);
-    Moved {
-        ring: g,
-        thread,
-        answer: Answer::Asked(By {
-            thread: who,
-            number: t.number,
-        }),
-    }
+    t.thread.awaited = Line::Copy(t.who);
+    t.to(T10, Answer::Asked(t.by()))
 }
 
 // T10: waits, then ITEM or EMPTY.
 #[tactic(auto, unfolding(rules::specs::Table::row_t10))]
-fn t10(g: Ring, who: u32, t: Thread) -> Moved
-    ensures { (m : List ℕ) → leaves result m ≡ row_t10 g who t m }
+fn t10(t: Turn) -> Moved
+    ensures { (m : List ℕ) → leaves result m ≡ row_t10 t.ring t.who t.thread m }
 {
-    let by = By {
-        thread: who,
-        number: t.number,
+    let last = if t.thread.item == 0 {
+        Answer::Empty(t.by())
+    } else {
+        Answer::Item(t.by(), t.thread.item)
     };
-    if t.item == 0 {
-        return rows::wait(g, who, t, Answer::Empty(by));
-    }
-    rows::wait(g, who, t, Answer::Item(by, t.item))
+    t.wait(last)
 }
 
 // The row of a take place.
 #[tactic(auto, unfolding(rules::specs::Table::take_row))]
-pub fn take_row(g: Ring, who: u32, t: Thread, m: &mut [u32]) -> Moved
-    requires ready { Ready g who t m.old }
-    requires within { g.head < run_limit }
-    ensures { leaves result m.new ≡ take_row g who t m.old }
+pub fn take_row(t: Turn, m: &mut [u32]) -> Moved
+    requires ready { Ready t.ring t.who t.thread m.old }
+    requires within { t.ring.head < run_limit }
+    ensures { leaves result m.new ≡ take_row t.ring t.who t.thread m.old }
 {
-    let place = t.place;
-    match place {
-        11 => t1(g, who, t),
-        12 => t2(g, who, t, m),
-        13 => t3(g, who, t, m),
-        14 => t4(g, who, t, m),
-        15 => t5(g, who, t, m),
-        16 => t6(g, who, t, m),
-        17 => t7(g, who, t, m),
-        18 => t8(g, who, t, m),
-        19 => t9(g, who, t),
-        _ => t10(g, who, t),
+    match t.thread.place {
+        T1 => t1(t),
+        T2 => t2(t, m),
+        T3 => t3(t, m),
+        T4 => t4(t, m),
+        T5 => t5(t, m),
+        T6 => t6(t, m),
+        T7 => t7(t, m),
+        T8 => t8(t, m),
+        T9 => t9(t),
+        _ => t10(t),
     }
 }

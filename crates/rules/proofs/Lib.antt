@@ -28,6 +28,7 @@ pub mod Listed
 pub mod Reader
 pub mod OneToOne
 pub mod Unique
+pub mod PlaceNames
 pub mod D3Cells
 pub mod D3Threads
 pub mod D3Inv

@@ -5,8 +5,11 @@ use Rattle.rules.specs.declared.Line.{Line}
 use Rattle.rules.specs.declared.Thread.{Thread}
 use Rattle.rules.specs.declared.Ring.{Ring}
 use Rattle.rules.specs.declared.Control.{Control}
+use Rattle.rules.specs.declared.Refusal.{Refusal}
+use Rattle.rules.specs.declared.Answer.{Answer}
 use Rattle.rules.specs.Record.{idle, fresh_control, with_thread, thread_at, counted_at, drawn_at}
 use Rattle.rules.specs.Line.{line_kind, line_place}
+use Rattle.rules.specs.Refusal.{number_of, answer_of}
 
 -- a statement that is an equation has one outcome
 pub only : {A : Type 0} {a b x : A} → a ≡ x → b ≡ x → a ≡ b
@@ -35,3 +38,10 @@ thread_at_only self i r r' = only
 
 pub with_thread_only : (self : Control) (i : ℕ) (t : Thread) (r r' : Control) → r ≡ with_thread self i t → r' ≡ with_thread self i t → r ≡ r'
 with_thread_only self i t r r' = only
+
+-- a refusal as a number and as an answer
+pub number_only : (self : Refusal) (r r' : ℕ) → r ≡ number_of self → r' ≡ number_of self → r ≡ r'
+number_only self r r' = only
+
+pub answer_only : (self : Refusal) (r r' : Answer) → r ≡ answer_of self → r' ≡ answer_of self → r ≡ r'
+answer_only self r r' = only

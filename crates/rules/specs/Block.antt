@@ -1,5 +1,5 @@
 -- A block of events as numbers: three for each event (kind, thread or line, item), six for each answer.
-use Rattle.std.specs.Prelude.{ℕ, zero, suc, ◌*◌, ◌+◌, ◌/◌, min, List, [], ◌∷◌, Bool, cond, ◌&&◌, eqb, leb, length, get_or}
+use Rattle.std.specs.Prelude.{ℕ, zero, suc, ◌*◌, ◌+◌, ◌/◌, min, List, [], ◌∷◌, Bool, cond, ◌&&◌, eqb, leb, length, get_or, Option, Some, None}
 use Rattle.std.proofs.lemmas.List.Edits.{sets}
 use Rattle.rules.specs.declared.Line.TheVariants.{Cell, Copy, Tail}
 use Rattle.rules.specs.declared.Event.{Event}
@@ -22,6 +22,12 @@ event_of k i x =
     (cond (eqb k 4) (Back (Cell i))
     (cond (eqb k 5) (Back (Copy i))
     (cond (eqb k 6) (Back Tail) Cut)))))
+
+-- the event that three numbers are, if they are one
+unfoldable pub event_in : List ℕ → Option Event
+event_in l =
+    let k = get_or l 0 0 in
+    cond (is_kind k) (Some (event_of k (get_or l 1 0) (get_or l 2 0))) None
 
 -- three numbers run on a state; where they are no event they are not understood, and nothing changes
 unfoldable pub runs : State → ℕ → ℕ → ℕ → Out

@@ -9,6 +9,7 @@ pub mod Table
 pub mod Cut
 pub mod Sound
 pub mod State
+pub mod Refusal
 pub mod Facts
 pub mod Refusals
 pub mod Events

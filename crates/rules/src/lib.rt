@@ -1,20 +1,24 @@
 // The types of document 01, and the control record's own methods.
 #![tactic(auto)]
 
+pub mod places;
+
 ghost use Rattle.std.specs.Prelude.{◌≡◌};
 ghost use Rattle.rules.specs.Record.{idle, fresh_control, with_thread, thread_at, counted_at, drawn_at};
 ghost use Rattle.rules.specs.Line.{line_kind, line_place};
 
-// A line of memory, as a thread awaits it and as a write-back carries it.
-#[derive(Clone, Copy)]
+// A line of memory, as a thread awaits it and as a write-back carries it. None is a case and no Option: the page has one of none, a cell, a copy, Tail, and `line_kind` numbers all four.
+#[derive(Clone, Copy, Default, PartialEq, Eq)]
 pub enum Line {
+    #[default]
     None,
     Cell(u32),
     Copy(u32),
     Tail,
 }
 
-#[derive(Clone, Copy)]
+// A cell's four numbers as they stand in an image, of which safe is no bool: an image that isn't sound has any number there.
+#[derive(Clone, Copy, Default, PartialEq, Eq)]
 pub struct Cell {
     pub safe: u32,
     pub index: u32,
@@ -22,7 +26,8 @@ pub struct Cell {
     pub mark: u32,
 }
 
-#[derive(Clone, Copy)]
+// One thread's record. Its place is a number and no enum: document 01 asks for one match on it, with ranges (`places`).
+#[derive(Clone, Copy, Default, PartialEq, Eq)]
 pub struct Thread {
     pub place: u32,
     pub item: u32,
@@ -58,6 +63,35 @@ pub enum Event {
     Cut,
 }
 
+// Why a call is refused: document 01's refusals, in the order of their numbers.
+#[derive(Clone, Copy, PartialEq, Eq)]
+pub enum Refusal {
+    // setup has R, n or S out of range
+    Range = 1,
+    // thread ≥ n
+    Thread,
+    // cell ≥ R, or copy ≥ n
+    Line,
+    // begin on a busy thread
+    Busy,
+    // step of an idle thread
+    Idle,
+    // put of item 0
+    Blank,
+    // event count already 1,000,000
+    Full,
+    // control record not sound
+    Record,
+    // text line not understood
+    Text,
+    // an image shorter than 4R + n + 2
+    Short,
+    // listing room under R numbers
+    Room,
+    // an image not sound
+    Image,
+}
+
 // Whose answer it is: the thread, and its number.
 #[derive(Clone, Copy)]
 pub struct By {
@@ -75,6 +109,7 @@ pub struct Found {
     pub count: u32,
 }
 
+// A refusal is its number here: `six_one_to_one` speaks of every number.
 #[derive(Clone, Copy)]
 pub enum Answer {
     Refused(u32),
@@ -116,8 +151,28 @@ pub struct Moved {
     pub answer: Answer,
 }
 
+impl From<Refusal> for u32 {
+    ghost use Rattle.rules.specs.Refusal.{number_of};
+
+    ghost from_gives = { λ r k. k ≡ number_of r };
+
+    fn from(r: Refusal) -> u32 {
+        r as u32
+    }
+}
+
+impl From<Refusal> for Answer {
+    ghost use Rattle.rules.specs.Refusal.{answer_of};
+
+    ghost from_gives = { λ r a. a ≡ answer_of r };
+
+    fn from(r: Refusal) -> Answer {
+        Answer::Refused(r.into())
+    }
+}
+
 impl Line {
-    // What the line is, as a number: none 0, a cell 1, a copy 2, Tail 3.
+    // What the line is, as a number: none 0, a cell 1, a copy 2, Tail 3. No `as u32`: two cases hold a number.
     pub fn kind(self) -> u32
         ensures { result ≡ line_kind self }
     {
@@ -147,31 +202,18 @@ impl Thread {
     pub fn idle() -> Thread
         ensures { result ≡ idle }
     {
-        Thread {
-            place: 0,
-            item: 0,
-            number: 0,
-            looked: Cell {
-                safe: 0,
-                index: 0,
-                item: 0,
-                mark: 0,
-            },
-            tries: 0,
-            awaited: Line::None,
-        }
+        Thread::default()
     }
 }
 
 impl Ring {
-    // One event more. At the run limit the numbers stay as they are.
+    // One event more. At the run limit the numbers stay as they are. It and `draw` stay two: one method that is given the field would be no shorter.
     #[tactic(auto, unfolding(crate::specs::Record::counted_at))]
     pub fn count(mut self) -> Ring
         ensures { result ≡ counted_at self }
     {
         if self.events < Control::RUN_LIMIT {
-            self.events = self.events + 1;
-            return self;
+            self.events += 1;
         }
         self
     }
@@ -182,8 +224,7 @@ impl Ring {
         ensures { result ≡ drawn_at self }
     {
         if self.head < Control::RUN_LIMIT {
-            self.head = self.head + 1;
-            return self;
+            self.head += 1;
         }
         self
     }
@@ -202,7 +243,6 @@ impl Control {
     pub fn fresh(cells: u32, threads: u32, tries: u32) -> Control
         ensures { result ≡ fresh_control cells threads tries }
     {
-        let t = Thread::idle();
         Control {
             ring: Ring {
                 cells,
@@ -211,7 +251,7 @@ impl Control {
                 events: 0,
                 head: 0,
             },
-            thread: [t; 8],
+            thread: [Thread::idle(); 8],
         }
     }
 
@@ -220,22 +260,16 @@ impl Control {
     pub fn thread_at(self, i: u32) -> Thread
         ensures { result ≡ thread_at self i }
     {
-        if i < Control::MAX_THREADS {
-            let k = i as usize;
-            return self.thread[k];
-        }
-        Thread::idle()
+        self.thread.get(i as usize).copied().unwrap_or_default()
     }
 
-    // Thread i's record is t, where there is a thread i.
+    // Thread i's record is t, where there is a thread i. By index: after get_mut a proof knows nothing of the element.
     #[tactic(auto, unfolding(crate::specs::Record::with_thread))]
     pub fn with_thread(mut self, i: u32, t: Thread) -> Control
         ensures { result ≡ with_thread self i t }
     {
         if i < Control::MAX_THREADS {
-            let k = i as usize;
-            self.thread[k] = t;
-            return self;
+            self.thread[i as usize] = t;
         }
         self
     }

@@ -1,1 +1,1 @@
-pub mod Six
+-- What the crate states is in the definitions of rules.

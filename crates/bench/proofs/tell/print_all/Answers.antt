@@ -1,9 +1,10 @@
-use Rattle.std.proofs.Common.{rules}
-use Rattle.bench.proofs.Telling.{print_more}
+use Rattle.bench.proofs.Telling.{answer_in, print_more}
 use Rattle.bench.proofs.tell.print_all.Goals as goal
 
-pub loop-j-preserved : goal.loop-j-preserved
-loop-j-preserved c =
+pub loop-six-preserved : goal.loop-six-preserved
+loop-six-preserved c =
     let a = c.args in
-    let l = c.loop-j in
-    (search rules, print_more a.e a.l a.room.now a.out.now l.out _ a.at l.j l.count l.line l.p _ _ _ l.invariant.1 c.print_one-r.ensures)
+    let l = c.loop-six in
+    let parts = c.as_chunks.ensures in
+    let e = answer_in a.room.now c.as_chunks.result.0.now _ l.six-index parts.front parts.front_len c.loop-six-test.true in
+    print_more a.e a.l a.room.now _ l.text _ l.six-index l.count l.line _ _ l.invariant (rw e at c.next_count-count.ensures) c.next_line-line.ensures (rw (c.said_of_six.ensures, e) at c.said.ensures)

@@ -8,11 +8,11 @@ use Rattle.ring.proofs.events.go.Goals as goal
 pub go-requires : goal.go-requires
 go-requires c =
     let a = c.args in
-    rw c.thread_at-t.ensures (any_needs_of (state a.c a.running.now a.kept.now) a.i c.requires (search rules))
+    rw c.of.ensures (any_needs_of (state a.c a.running.now a.kept.now) a.i c.requires (search rules))
 
 pub returns : goal.returns
 returns c =
     let a = c.args in
     let s = state a.c a.running.now a.kept.now in
-    let e = rw c.thread_at-t.ensures at c.go.ensures in
+    let e = rw c.of.ensures at c.go.ensures in
     rw c.placed.ensures (ap (λ (y : Step). left s a.i y) e ∙ go_left s a.i)

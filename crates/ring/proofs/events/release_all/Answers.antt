@@ -4,9 +4,9 @@ use Rattle.rules.specs.Line.{released}
 use Rattle.rules.specs.Record.{idle}
 use Rattle.ring.proofs.events.release_all.Goals as goal
 
-pub loop-i-preserved : goal.loop-i-preserved
-loop-i-preserved c =
-    let i = c.loop-i in
+pub loop-t-preserved : goal.loop-t-preserved
+loop-t-preserved c =
+    let i = c.loop-t in
     let a = c.args in
-    let h : i.i < length a.threads = omega arith in
-    rw (add-one, c.release.ensures, i.invariant, sweep_next (released a.line) a.threads i.i idle h)
+    let h : i.t-index < length a.threads = omega arith in
+    rw (add-one, c.release.ensures, i.invariant, sweep_next (released a.line) a.threads i.t-index idle h)

@@ -3,5 +3,5 @@ use Rattle.rules.specs.Line.{released}
 use Rattle.ring.proofs.Sweep.{sweep_to}
 use Rattle.ring.proofs.events.release_all.Given as goal
 
-abbrev pub invariant-loop-i : goal.invariant-loop-i
-invariant-loop-i l = l.after ≡ sweep_to (released l.line) l.threads l.i
+abbrev pub invariant-loop-t : goal.invariant-loop-t
+invariant-loop-t l = l.t-items ≡ sweep_to (released l.line) l.fn.threads l.t-index

@@ -1,8 +1,7 @@
-use Rattle.std.proofs.Common.{arith, ◌≤◌}
-use Rattle.ring.proofs.Laws.{count_under}
+use Rattle.std.proofs.Common.{rules}
+use Rattle.std.proofs.iter.Rest.{running}
+use Rattle.ring.proofs.Images.{count_is}
 use Rattle.ring.proofs.recovery.count_of.Goals as goal
 
-pub overflow_add-count : goal.overflow_add-count
-overflow_add-count c =
-    let l : c.loop-j.count ≤ c.loop-j.j = rw c.loop-j.invariant (count_under _ c.loop-j.j) in
-    omega arith
+pub returns : goal.returns
+returns c = let a = c.args in rw (count_is a.s.cells a.mark a.m.now c.requires) (search (rules, running))
