@@ -8,8 +8,8 @@ usage: tools/edits.py [CRATE..]        at the top of the repository; with names,
 - No error is about a name: a proof that names what the edit took away would be refused whatever the edit means.
 - An edit can have slips in several functions, each told by a line '# slip FUNCTION: ..'. Each named function must be refused itself, and not for what it calls.
 
-First each crate is checked as it stands: it must be proved, or a refusal says nothing. The last line counts the edits and the slips. The status is 1 where one is
-not refused so, or is not told well.
+First each crate is checked as it stands: it must be proved, or a refusal says nothing. The edits begin with what that check kept. The last line counts the edits and
+the slips. The status is 1 where one is not refused so, or is not told well.
 """
 
 import concurrent.futures
@@ -36,9 +36,23 @@ def write(path, text):
         f.write(text)
 
 
+def copied(folder, to):
+    """Copies a folder, what was proved in it by links: a check makes such a file anew, and changes none."""
+
+    def link(one, other):
+        try:
+            if one.endswith(".oantt"):
+                return os.link(one, other)
+        except OSError:
+            pass  # another disk
+        return shutil.copy2(one, other)
+
+    shutil.copytree(folder, to, symlinks=True, copy_function=link)
+
+
 def apply(text, folder):
-    """Writes the edit's files, and returns their texts as they were."""
-    was, path, old = {}, None, None
+    """Writes the edit's files."""
+    path, old = None, None
     for line in text.split("\n"):
         if line.startswith("file: "):
             path = os.path.join(folder, line[len("file: ") :].strip())
@@ -46,16 +60,14 @@ def apply(text, folder):
             old = line[len("old: ") :]
         elif line.startswith("new:"):
             now = read(path)
-            was.setdefault(path, now)
             if now.count(old) != 1:
                 raise ValueError(f"{path} has this text {now.count(old)} times and not once: {old}")
             write(path, now.replace(old, line[len("new:") :].removeprefix(" ")))
-    return was
 
 
 def check(folder):
     """Returns whether the crate is proved, whether it is refused, and what the check says."""
-    ran = subprocess.run(["rt", "check"], cwd=folder, stdin=subprocess.DEVNULL, stdout=subprocess.PIPE, stderr=subprocess.STDOUT, text=True, errors="replace")
+    ran = subprocess.run(["rt", "check", "--jobs", "1"], cwd=folder, stdin=subprocess.DEVNULL, stdout=subprocess.PIPE, stderr=subprocess.STDOUT, text=True, errors="replace")
     verdict = re.findall(r"^logic=(\S+)", ran.stdout, re.M)[-1:]
     return ran.returncode == 0 and verdict == ["proved"], ran.returncode == 1 and verdict == ["not-proved"], ran.stdout
 
@@ -75,37 +87,41 @@ def faults(crate, text, refused, said):
             yield f"the slip in {function} is not refused by itself: {told[1][:200] if told else 'no word of it'}"
 
 
-def tried(crate):
-    """Tries the crate's edits on a copy of its own, and returns how many there are, with how many slips, and what is wrong."""
-    texts = {it: read(f"crates/{crate}/must-fail/{it}") for it in sorted(os.listdir(f"crates/{crate}/must-fail"))}
-    wrong = []
-    with tempfile.TemporaryDirectory(prefix="edits-") as room:
-        for it in ("crates.txt", "HANDLES"):
-            if os.path.isfile(it):
-                shutil.copy2(it, room)
-        shutil.copytree("crates", f"{room}/crates", ignore=shutil.ignore_patterns("out"))
-        folder = f"{room}/crates/{crate}"
-        proved, _, said = check(folder)
-        if not proved:
-            wrong.append(f"{crate} is not proved as it stands: {said.strip()[-200:]}")
-        for edit, text in texts.items() if proved else []:
-            was = apply(text, folder)
-            _, refused, said = check(folder)
-            for path, whole in was.items():
-                write(path, whole)
-            wrong += [f"{crate}/{edit}: {it}" for it in faults(crate, text, refused, said)]
-    return len(texts), sum(len(re.findall(r"^# slip ", it, re.M)) for it in texts.values()), wrong
+def slips(text):
+    return len(re.findall(r"^# slip ", text, re.M))
+
+
+def tried(base, crate, text):
+    """Tries an edit on a copy of its own, and returns what is wrong."""
+    with tempfile.TemporaryDirectory(prefix="edit-") as room:
+        copied(base, f"{room}/all")
+        folder = f"{room}/all/crates/{crate}"
+        apply(text, folder)
+        _, refused, said = check(folder)
+    return list(faults(crate, text, refused, said))
 
 
 def main():
     crates = [it for it in sys.argv[1:] or sorted(os.listdir("crates")) if os.path.isdir(f"crates/{it}/must-fail")]
-    with concurrent.futures.ThreadPoolExecutor(2) as two:
-        results = list(two.map(tried, crates))
-    wrong = [it for result in results for it in result[2]]
+    edits = [(crate, it, read(f"crates/{crate}/must-fail/{it}")) for crate in crates for it in sorted(os.listdir(f"crates/{crate}/must-fail"))]
+    wrong = []
+    with tempfile.TemporaryDirectory(prefix="edits-") as base, concurrent.futures.ThreadPoolExecutor(len(os.sched_getaffinity(0))) as pool:
+        for it in ("crates.txt", "HANDLES"):
+            if os.path.isfile(it):
+                shutil.copy2(it, base)
+        copied("crates", f"{base}/crates")
+        for crate in crates:
+            proved, _, said = check(f"{base}/crates/{crate}")
+            if not proved:
+                wrong.append(f"{crate} is not proved as it stands: {said.strip()[-200:]}")
+        # the longest first
+        edits.sort(key=lambda it: slips(it[2]), reverse=True)
+        found = pool.map(lambda it: tried(base, it[0], it[2]), edits if not wrong else [])
+        wrong += [f"{crate}/{name}: {it}" for (crate, name, _), its in zip(edits, found) for it in its]
     for it in wrong:
         print(f"edits: {it}")
-    edits, slips = (sum(result[at] for result in results) for at in (0, 1))
-    print(f"edits: {edits} edits with {slips} slips" + (f": {len(wrong)} faults" if wrong else ", each refused for a fact, and each slip in its own function"))
+    counted = f"{len(edits)} edits with {sum(slips(text) for _, _, text in edits)} slips"
+    print(f"edits: {counted}" + (f": {len(wrong)} faults" if wrong else ", each refused for a fact, and each slip in its own function"))
     return 1 if wrong or not edits else 0
 
 

@@ -33,13 +33,13 @@ LINES = {
         ("a struct of equal numbers in place of an array", r"^    pub (first|second|third|fourth|fifth): u32,$"),
     ],
     7: [
-        ("a switch on which step to run", r"\bmatch (kind|place|e|phase|w|k) \{$|\b(single|which): bool\b"),
+        ("a switch on which step to run", r"\bmatch (\w+\.)*(kind|place|e|phase|w|k|six) \{$|\b(single|which): bool\b"),
     ],
 }
 
 
 def functions(text):
-    """The functions of a file: name, parameters, clauses and body."""
+    """Yields each function of a file: its name, and its text from its head to its closing brace."""
     for m in re.finditer(r"^( *)(?:pub )?(?:extern \"C\" )?(?:final )?fn (\w+)", text, re.M):
         end = re.compile(r"^%s\}|^%s[^\n]*\}$" % (m[1], m[1]), re.M).search(text, text.find("{\n", m.start()))
         yield m[2], text[m.start() : end.end() if end else len(text)]
@@ -91,7 +91,8 @@ def main():
             for name, f, text in all_functions:
                 for clause in re.findall(r"requires(?: \w+)? \{(.*)\}\s*$", text, re.M):
                     for fact in clause.split("×"):
-                        fact = re.sub(r"\b\w+\.(now|old|new)\b", "m", fact.strip().strip("()"))
+                        fact = re.sub(r"\b(self|s|t)\.((old|new|now)\.)?(?=\w)(?!(old|new|now)\b)", "", fact.strip().strip("()"))
+                        fact = re.sub(r"\b\w+\.(now|old|new)\b", "m", fact)
                         facts[re.sub(r"\b(cells|g\.cells)\b", "R", re.sub(r"\b(threads|g\.threads)\b", "n", fact))].add(f"{name} {f}")
                 names = parameters(text)
                 for i in range(len(names)):
