@@ -1,7 +1,8 @@
 /*
  * Winterbeam: recovery of a ring's kept memory after a power cut.
  *
- * Link with libhost.a, which `rt lib` makes in crates/host (crates/host/out/libhost.a, x86-64 Linux).
+ * Link with libhost.a, which `rt lib` makes in crates/host (crates/host/out/libhost.a, Linux on
+ * x86-64 with SSE4.1, which x86-64-v2 has).
  * The archive needs memcpy and memset from the C library, and nothing else.
  */
 #ifndef WINTERBEAM_H

@@ -105,7 +105,7 @@ def main():
     crates = [it for it in sys.argv[1:] or sorted(os.listdir("crates")) if os.path.isdir(f"crates/{it}/must-fail")]
     edits = [(crate, it, read(f"crates/{crate}/must-fail/{it}")) for crate in crates for it in sorted(os.listdir(f"crates/{crate}/must-fail"))]
     wrong = []
-    with tempfile.TemporaryDirectory(prefix="edits-") as base, concurrent.futures.ThreadPoolExecutor(len(os.sched_getaffinity(0))) as pool:
+    with tempfile.TemporaryDirectory(prefix="edits-") as base, concurrent.futures.ThreadPoolExecutor(min(4, len(os.sched_getaffinity(0)))) as pool:
         for it in ("crates.txt", "HANDLES"):
             if os.path.isfile(it):
                 shutil.copy2(it, base)

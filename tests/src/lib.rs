@@ -4,6 +4,7 @@ pub mod account;
 pub mod answer;
 pub mod check;
 pub mod client;
+pub mod compared;
 pub mod coverage;
 pub mod cut_picture;
 pub mod drawing;

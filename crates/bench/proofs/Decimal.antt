@@ -3,7 +3,7 @@ use Prim.Native.Nat.{ℕ, zero, suc, ◌+◌, ◌*◌, ◌-◌, ◌/◌, ◌%◌
 use mathlib.Core.Path.{◌≡◌, refl, ap, ◌∙◌}
 use mathlib.Core.List.{List, [], ◌∷◌, ◌++◌}
 use mathlib.Core.Bool.{Bool, true, false, cond}
-use native.Mathlib.Nat.{pow-suc, pow-zero, mod-lt, div-add-mod', div-lt_iff_lt-mul}
+use native.Mathlib.Nat.{pow-suc, pow-zero, div-lt_iff_lt-mul}
 use native.Mathlib.Omega.{arith}
 use lib.ListN.{length, length-append}
 use lib.Dec.{ltb, lit<}
@@ -17,10 +17,10 @@ pub tenth : (f n : ℕ) → n < 10 ^ suc f → n / 10 < 10 ^ f
 tenth f n h = (div-lt_iff_lt-mul (lit< tt)).1 (rw pow-suc at h)
 
 pub tenth_of : (v d : ℕ) → d ≤ 9 → (v * 10 + d) / 10 ≡ v
-tenth_of v d h = let q = div-add-mod' (v * 10 + d) 10 in let m = mod-lt (v * 10 + d) {m = 10} (lit< tt) in omega arith
+tenth_of v d h = omega arith
 
 pub last_of : (v d : ℕ) → d ≤ 9 → (v * 10 + d) % 10 ≡ d
-last_of v d h = let q = div-add-mod' (v * 10 + d) 10 in let m = mod-lt (v * 10 + d) {m = 10} (lit< tt) in omega arith
+last_of v d h = omega arith
 
 -- more room changes nothing
 fuel_by : (t : Bool) (f n : ℕ) → ltb n 10 ≡ t → (10 ≤ n → decimal_in f (n / 10) ≡ decimal_in (suc f) (n / 10))
@@ -69,10 +69,10 @@ value_by : (t : Bool) (f n : ℕ) → ltb n 10 ≡ t → (10 ≤ n → value 0 (
 value_by true f n e a = omega arith
 value_by false f n e a =
     value-append 0 (decimal_in f (n / 10)) ((48 + n % 10) ∷ [])
-    ∙ rw (a (ltb-false n 10 e)) (let q = div-add-mod' n 10 in omega arith)
+    ∙ rw (a (ltb-false n 10 e)) (omega arith)
 
 value_in : (f n : ℕ) → n < 10 ^ f → value 0 (decimal_in f n) ≡ n
-value_in zero n h = let q = pow-zero 10 in omega arith
+value_in zero n h = omega arith
 value_in (suc f) n h = value_by (ltb n 10) f n refl (λ k. value_in f (n / 10) (tenth f n h))
 
 pub has_its_value : HasItsValue

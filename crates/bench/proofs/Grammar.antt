@@ -1,4 +1,5 @@
 -- The lines that are understood are the commands' texts.
+use Rattle.std.proofs.lemmas.List.{nil_from_length}
 use Rattle.std.proofs.Common.{◌≡◌, ℕ, ◌+◌, ◌*◌, ◌≤◌, List, [], ◌∷◌, ◌++◌, Bool, true, false, cond, length, get_or, drop, refl, ap, subst, ◌∙◌, arith, Option, Some, None, option_map, option_and_then, eqb, ltb}
 use Rattle.std.proofs.Math.ListN.{length-append}
 use lib.Seq.{drop_at}
@@ -87,13 +88,9 @@ text_is_read l (command.Event (event.Back line.None)) i = absurd i
 text_is_read l (command.Event event.Cut) i = text_line l Cut [] refl refl i
 
 -- ---- a line that is read as a command is that command's text
-none_of : (ns : List ℕ) → length ns ≡ 0 → ns ≡ []
-none_of [] h = refl
-none_of (a ∷ ns) h = absurd (omega arith)
-
 one_of : (ns : List ℕ) → length ns ≡ 1 → ns ≡ get_or ns 0 0 ∷ []
 one_of [] h = absurd (omega arith)
-one_of (a ∷ ns) h = ap (λ (x : List ℕ). a ∷ x) (none_of ns (omega arith))
+one_of (a ∷ ns) h = ap (λ (x : List ℕ). a ∷ x) (nil_from_length ns (omega arith))
 
 two_of : (ns : List ℕ) → length ns ≡ 2 → ns ≡ get_or ns 0 0 ∷ get_or ns 1 0 ∷ []
 two_of [] h = absurd (omega arith)
@@ -117,8 +114,8 @@ word-says Take l ns r = is_text l Take ns _ r (one_of ns r.1.1.1)
 word-says Go l ns r = is_text l Go ns _ r (one_of ns r.1.1.1)
 word-says Cell l ns r = is_text l Cell ns _ r (one_of ns r.1.1.1)
 word-says Copy l ns r = is_text l Copy ns _ r (one_of ns r.1.1.1)
-word-says Tail l ns r = is_text l Tail ns _ r (none_of ns r.1.1.1)
-word-says Cut l ns r = is_text l Cut ns _ r (none_of ns r.1.1.1)
+word-says Tail l ns r = is_text l Tail ns _ r (nil_from_length ns r.1.1.1)
+word-says Cut l ns r = is_text l Cut ns _ r (nil_from_length ns r.1.1.1)
 
 numbers_say : (o : Option (List ℕ)) (l : List ℕ) (w : Word) (c : Command) → Begins l w → numbers (wants w) (drop (length (text w)) l) ≡ o
     → option_map (λ ns. made w ns) o ≡ Some c → Says l c

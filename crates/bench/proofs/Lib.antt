@@ -9,8 +9,8 @@ pub mod Stream
 pub mod Running
 pub mod Blocks
 pub mod Stored
-pub mod Scanning
 pub mod Gathering
 pub mod Counting
 pub mod Telling
 pub mod Tied
+pub mod Unique

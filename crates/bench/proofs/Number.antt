@@ -3,11 +3,11 @@ use Prim.Native.Nat.{ℕ, zero, suc, ◌+◌, ◌*◌, ◌-◌, ◌/◌, ◌%◌
 use mathlib.Core.Path.{◌≡◌, refl, ap, sym, ◌∙◌}
 use mathlib.Core.List.{List, [], ◌∷◌, ◌++◌}
 use mathlib.Core.Bool.{Bool, true, false, cond, ◌&&◌}
-use native.Mathlib.Nat.{pow-zero, div-add-mod', mod-lt}
+use native.Mathlib.Nat.{div-add-mod'}
 use native.Mathlib.Omega.{arith}
 use lib.ListN.{get_or}
 use lib.Seq.{append_snoc}
-use lib.Dec.{eqb, leb, ltb, lit<}
+use lib.Dec.{eqb, leb, ltb}
 use borrow.Author.Tests.{le-leb, ne_eqb, leb-true, eqb-true, eqb-false, ltb-true, ltb-false}
 use Rattle.std.specs.Prelude.{Option, Some, None}
 use Rattle.std.proofs.lemmas.Option.{none-some, some_pair_parts}
@@ -112,18 +112,16 @@ digits_by false f n l e o m step =
     let h = ltb-false n 10 e in
     let d = n % 10 in
     let q : n / 10 * 10 + n % 10 ≡ n = div-add-mod' n 10 in
-    let k : n % 10 < 10 = mod-lt n {m = 10} (lit< tt) in
     ap (λ (x : List ℕ). number x) (append_snoc (decimal_in f (n / 10)) (48 + d) l)
     ∙ step h ((48 + d) ∷ l)
     ∙ from_next (n / 10) d l (omega arith) (omega arith)
     ∙ rw q
 
 digits_read : (f n : ℕ) (l : List ℕ) → 1 ≤ n → n ≤ largest → n < 10 ^ f → number (decimal_in f n ++ l) ≡ number_from n l
-digits_read zero n l o m h = let q = pow-zero 10 in absurd (omega arith)
+digits_read zero n l o m h = absurd (omega arith)
 digits_read (suc f) n l o m h =
     digits_by (ltb n 10) f n l refl o m
-    (λ k x. let q = div-add-mod' n 10 in let r = mod-lt n {m = 10} (lit< tt) in
-    digits_read f (n / 10) x (omega arith) (omega arith) (tenth f n h))
+    (λ k x. digits_read f (n / 10) x (omega arith) (omega arith) (tenth f n h))
 
 from_stops : (l : List ℕ) (v : ℕ) → NoDigit l → number_from v l ≡ Some (v, l)
 from_stops [] v h = refl

@@ -132,7 +132,6 @@ told-printed r block room (suc k) h =
     let u = run_to r.state block room k in
     let t = told_to r block k in
     let x = six (event_runs u.state block k).answer in
-    let y = six (event_runs t.run.state block k).answer in
     let n = room-length r.state block room k in
     ap (λ (v : Printed). prints v (sets u.room (6 * k) x) k)
     (printed_same e r.lines (sets u.room (6 * k) x) u.room k (λ j q. earlier u.room x k j q (omega (arith, n, length-six (event_runs u.state block k).answer))) ∙ told-printed r block room k (omega arith))
@@ -166,7 +165,7 @@ print_more e l room t u v k c d f g (a, b) p q w =
       record {
         line = y;
         written = rw (← x, ← y) (and_then b.written w.written);
-        near = let m = b.near in let n = w.near in omega arith;
+        near = omega arith;
       },
     )
 

@@ -20,12 +20,11 @@ held_by : (t : Bool) (c l : List ℕ) (n b : ℕ) → ltb n 41 ≡ t → Held c 
 unfolding keep_carry keep_len keep_byte
 held_by true c l n b e h =
     let w = ltb-true n 41 e in
-    let s = h.size in
     let i : n < length c = omega arith in
     simp (← h.count, e)
     (record {
       size = length-set c n b ∙ h.size;
-      count = let q = length-append l (b ∷ []) in let k = h.count in omega arith;
+      count = let q = length-append l (b ∷ []) in omega arith;
       bytes = rw (add-one n) (take-suc-set c n b i ∙ ap (λ (x : List ℕ). x ++ (b ∷ [])) h.bytes);
     })
 held_by false c l n b e h = simp (← h.count, e) h
@@ -50,14 +49,14 @@ module _ (s : Fed) (i b : ℕ) (bs out : List ℕ) (at : ℕ) (r : Poured) where
       let x = says (feed_byte s b) (take k bs) in (
         suc k,
         (
-          let q = t.1.0 in omega arith,
+          omega arith,
           (
             t.1.1.0,
             (
               t.1.1.1.0,
               (
                 t.1.1.1.1.0 ∙ sym (sets-append out at (says_byte s b) x),
-                let q = t.1.1.1.1.1 in omega (arith, length-append (says_byte s b) x),
+                omega (arith, length-append (says_byte s b) x),
               ),
             ),
           ),

@@ -29,7 +29,7 @@ examples =
     -- the machine's refusals: no such thread, no such cell or copy, a busy thread, an idle one, item 0
     ∷ prints "ring 2 1 1\ntake 1\nback cell 2\nback copy 1\nput 0 4294967295\ntake 0\ncut\ngo 0\nput 0 0\n"
     "refused 2 2\nrefused 3 3\nrefused 4 3\nrefused 6 4\n2 cut 0 0 0 0 0\nrefused 8 5\nrefused 9 6\nend 2\n"
-    -- a line of more than 40 bytes, and the next one
+    -- a line of more than 40 bytes, not understood for its zeros either, and the next one
     ∷ prints "ring 1 1 1\ngo 00000000000000000000000000000000000000000000000000\ntake 0\n" "refused 2 9\nend 1\n"
     -- EMPTY, ITEM and CLOSED
     ∷ prints "ring 1 1 16\ntake 0\ngo 0\ngo 0\ngo 0\ngo 0\ngo 0\ngo 0\ngo 0\nback copy 0\ngo 0\n" "10 empty 0\nend 10\n"

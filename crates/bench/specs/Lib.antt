@@ -6,7 +6,6 @@ pub mod Print
 pub mod Bench
 pub mod Stream
 pub mod Examples
-pub mod Unique
 pub mod Block
 pub mod Gather
 pub mod Tied

@@ -1,4 +1,4 @@
-// Lines gathered into a block of events: three numbers each.
+// Lines gathered into a block of events: three numbers each. A place in the block, and how many lines may be run, stand beside it: `feed` hands them on, and `pour` speaks of both.
 ghost use Rattle.std.specs.Prelude.{◌≡◌, ◌*◌, ◌≤◌, length};
 ghost use Rattle.bench.specs.Gather.{three_of_event, three_of, most_of, Gathers};
 
@@ -13,7 +13,7 @@ pub struct Gathered {
     pub count: usize,
 }
 
-// An event's numbers, if it is run in a block. A function, since neither type is this crate's and `From` could not be implemented here.
+// An event's numbers, if it is run in a block: a match on the enum's own cases, which gives a value. A function, since neither type is this crate's and `From` could not be implemented here.
 fn three_of_event(e: Event) -> Option<[u32; 3]>
     ensures { result ≡ three_of_event e }
 {
@@ -28,7 +28,7 @@ fn three_of_event(e: Event) -> Option<[u32; 3]>
     }
 }
 
-// A command's numbers, if it is run in a block, where one that is refused is 0 0 0. A function like the one above, for an Option.
+// A command's numbers, if it is run in a block. A line that is refused is 0 0 0, which is no event, so that `ring::run` answers 9 in its turn. A function like the one above, for an Option.
 fn three_of(c: Option<Command>) -> Option<[u32; 3]>
     ensures { result ≡ three_of c }
 {
@@ -38,7 +38,7 @@ fn three_of(c: Option<Command>) -> Option<[u32; 3]>
     }
 }
 
-// How many lines may be gathered, of those that are left.
+// How many lines may be gathered, of those that are left: a match that gives a number, and chooses no step.
 pub fn most_of(phase: Phase, left: usize) -> usize
     ensures most { result ≡ most_of phase left }
     ensures small { (result ≤ left) × (result ≤ 256) }
@@ -49,7 +49,8 @@ pub fn most_of(phase: Phase, left: usize) -> usize
     }
 }
 
-// By places, since under chunks_exact_mut a proof knows none of the numbers. Lines from a place on go to the block of events, up to the text's end, or a line that is run by itself.
+// Lines from a place on go to the block of events, up to the text's end, or a line that is run by itself.
+// By places: tried, and events lent out by chunks_exact_mut or as_chunks_mut come back with none of their numbers known, so the `ensures` stays open.
 #[tactic(auto, using(crate::proofs::Gathering::gather_none, crate::proofs::Gathering::gather_scan))]
 pub fn gather(
     block: &[u8],

@@ -50,7 +50,7 @@ pub struct Finished {
 }
 
 impl Bench {
-    // Before the first line.
+    // Before the first line. No derive: a control record has no default, it is made of R, n and S.
     pub fn fresh() -> Self
         ensures { result ≡ fresh_bench }
     {
@@ -63,6 +63,7 @@ impl Bench {
 }
 
 // A block of input from a place on, until it is over or as many lines were run as the buffer has room for, at 2,048 bytes each.
+// Places stand beside the block and the buffer, and no shorter slices: any place may be given, and `pour` speaks of them. Bench, carry and images are lent one by one: it speaks of each.
 pub fn feed(
     mut bench: Bench,
     carry: &mut Carry,
@@ -101,6 +102,7 @@ pub fn feed(
 }
 
 // The end of the input: the last line, if its newline is missing or no line was read, and the event count. It wants room for 4,096 bytes.
+// The carried bytes, their number and the place are given one by one: `finished` speaks of any of them.
 pub fn finish(
     bench: Bench,
     carry: &[u8],

@@ -1,4 +1,4 @@
-// What ringrun prints, into a lent buffer.
+// What ringrun prints, into a lent buffer. How many numbers a line has stays a clause: a struct of the slice and that fact would be no shorter.
 ghost use Rattle.std.specs.Prelude.{◌≡◌, ◌+◌, ◌*◌, ◌≤◌, [], ◌∷◌, ◌++◌, length, Some};
 ghost use Rattle.bench.specs.Decimal.{decimal, spaced};
 ghost use Rattle.bench.specs.Print.{Written, HasRoom, LineWritten, counted_text, said_of, said_text, end_text};
@@ -6,7 +6,7 @@ ghost use Rattle.bench.specs.Print.{Written, HasRoom, LineWritten, counted_text,
 use itoa::Buffer;
 use rules::{Answer, Found};
 
-// What is printed of an answer: a refusal with its number, or one of the four with its thread and item, or what a cut found.
+// What is printed of an answer: a refusal with its number, as `Answer` has it, or one of the four with its thread and item, or what a cut found.
 #[derive(Clone, Copy)]
 pub enum Said {
     Refused(u32),
@@ -32,7 +32,7 @@ pub fn said_of(a: Answer) -> Option<Said>
     }
 }
 
-// Text on its way into a lent buffer: the next byte goes to place `at`.
+// Text on its way into a lent buffer: the next byte goes to place `at`. `HasRoom`, which a line's function asks, is no invariant: it need not hold after the line.
 // No `fmt::Write`: its contract says nothing of a write that fails, and `feed` promises by `outcome` that the text is there.
 #[derive(Drop)]
 pub struct Text<'a> {
@@ -125,23 +125,35 @@ impl Text<'_> {
         self.byte(b'\n');
     }
 
-    // What is said of an answer, if anything.
+    // The line of what is said.
+    #[inline(never)]
+    #[tactic(auto, unfolding(crate::specs::Print::said_text))]
+    fn line(&mut self, e: u32, l: u64, s: Said, items: &[u32])
+        requires { (length items.now ≤ 64) × HasRoom self.old }
+        ensures { LineWritten self.old (said_text e l items.now (Some s)) self.new }
+    {
+        match s {
+            Said::Refused(k) => self.refused(l, k),
+            Said::Ok(t, x) => self.counted(e, b"ok", &[t, x], &[]),
+            Said::Closed(t) => self.counted(e, b"closed", &[t], &[]),
+            Said::Item(t, x) => self.counted(e, b"item", &[t, x], &[]),
+            Said::Empty(t) => self.counted(e, b"empty", &[t], &[]),
+            Said::Cut(f) => {
+                let found = [f.mark, f.head, f.tail, f.closed, f.count];
+                self.counted(e, b"cut", &found, items);
+            }
+        }
+    }
+
+    // What is said of an answer, if anything. Its line is a function of its own, so that no call is made where nothing is said.
+    #[inline(always)]
     #[tactic(auto, unfolding(crate::specs::Print::said_text))]
     pub fn said(&mut self, e: u32, l: u64, s: Option<Said>, items: &[u32])
         requires { (length items.now ≤ 64) × HasRoom self.old }
         ensures { LineWritten self.old (said_text e l items.now s) self.new }
     {
-        match s {
-            None => {}
-            Some(Said::Refused(k)) => self.refused(l, k),
-            Some(Said::Ok(t, x)) => self.counted(e, b"ok", &[t, x], &[]),
-            Some(Said::Closed(t)) => self.counted(e, b"closed", &[t], &[]),
-            Some(Said::Item(t, x)) => self.counted(e, b"item", &[t, x], &[]),
-            Some(Said::Empty(t)) => self.counted(e, b"empty", &[t], &[]),
-            Some(Said::Cut(f)) => {
-                let found = [f.mark, f.head, f.tail, f.closed, f.count];
-                self.counted(e, b"cut", &found, items);
-            }
+        if let Some(s) = s {
+            self.line(e, l, s, items);
         }
     }
 }

@@ -56,7 +56,7 @@ fn numbers<const N: usize>(s: &[u8]) -> Option<[u32; N]>
     for n in ns.iter_mut() {
         (*n, rest) = after_space(rest)?;
     }
-    if rest.is_empty() { Some(ns) } else { None }
+    rest.is_empty().then_some(ns)
 }
 
 // The line that a write-back names, by what comes after "back ".
@@ -82,6 +82,7 @@ fn back(s: &[u8]) -> Option<Line>
 }
 
 // The command that a line is, without its newline, if it is understood.
+#[inline(always)]
 #[tactic(auto, unfolding(crate::specs::Read::line_of, crate::specs::Read::command_of, crate::specs::Read::first_word))]
 pub fn line(s: &[u8]) -> Option<Command>
     ensures { result ≡ line_of s.now }

@@ -31,7 +31,7 @@ fn not_understood(b: Bench, text: &mut Text) -> Bench
     b
 }
 
-// A first line with a ring's numbers.
+// A first line with a ring's numbers, as `setup` takes them.
 fn set_up(
     l: u64,
     cells: u32,
@@ -97,7 +97,7 @@ fn list_items(control: Control, kept: &[u32], room: &mut [u32; 64]) -> usize
     ring::list(g.cells, g.threads, g.tries, g.events, kept, room).unwrap_or(0) as usize
 }
 
-// The items that the event queues if it is a cut, in front of the room, and how many: `Lists` speaks of a room and a count.
+// The items that the event queues if it is a cut, in front of the room, and how many: `Lists` speaks of a room and a count. The match gives that number, and chooses no step.
 fn list_for(e: Event, control: Control, kept: &[u32], room: &mut [u32; 64]) -> usize
     ensures few { result ≤ 64 }
     ensures lists { Lists control kept.now e room.new result }
@@ -141,7 +141,7 @@ fn later_line(
     }
 }
 
-// A line, without its newline.
+// A line, without its newline: the phase's own match, each phase a function.
 #[tactic(auto, unfolding(crate::specs::Bench::ran_line, crate::specs::Bench::line_says))]
 pub fn run_line(
     b: Bench,
@@ -165,7 +165,7 @@ pub fn run_line(
     }
 }
 
-// Whether a line is still to be run at the end: it has bytes, or none was read.
+// Whether a line is still to be run at the end: it has bytes, or none was read. A function, under the name by which `Stream` and an edit speak of it.
 fn is_open(phase: Phase, n: usize) -> bool
     ensures { result ≡ is_open phase n }
 {

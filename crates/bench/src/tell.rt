@@ -1,4 +1,4 @@
-// A block of events run at once, and its answers printed.
+// A block of events run at once, and its answers printed. Bench, images and text are lent one by one, as in `run`.
 ghost use Rattle.std.specs.Prelude.{◌≡◌, ◌+◌, ◌*◌, ◌/◌, ◌≤◌, [], length, drop};
 ghost use Rattle.bench.specs.Bench.{run_with};
 ghost use Rattle.bench.specs.Block.{pour};
@@ -17,7 +17,7 @@ pub struct Batch {
     pub left: usize,
 }
 
-// The event count after an answer with that number, which is 0 for a refusal (docs/ANSWERS.md). A count of 32 bits stays at its largest number.
+// The event count after an answer with that number, which is 0 for a refusal: `ring::run` leaves answers as numbers. A count of 32 bits stays at its largest number.
 #[tactic(auto, unfolding(crate::specs::Gather::next_count))]
 fn next_count(e: u32, k: u32) -> u32
     ensures { result ≡ next_count e k }
@@ -25,7 +25,7 @@ fn next_count(e: u32, k: u32) -> u32
     if k == 0 { e } else { e.saturating_add(1) }
 }
 
-// What is printed of an answer's six numbers, if anything. Beside `said_of`, since `ring::run` leaves answers as numbers, and an answer read back whole would be taken apart again.
+// What is printed of an answer's six numbers, if anything: a match that gives a value. Beside `said_of`, since `ring::run` leaves answers as numbers, and an answer read back whole would be taken apart again.
 #[tactic(auto, unfolding(crate::specs::Gather::said_six))]
 fn said_of_six(six: [u32; 6]) -> Option<Said>
     ensures { result ≡ said_six six }
@@ -63,7 +63,8 @@ fn print_all(e: u32, l: u64, room: &[u32], text: &mut Text) -> u64
     line
 }
 
-// The first n events of a block, and what their answers print. n stands beside the two slices, since `told_to` speaks of a whole block and a count: shorter slices would put `take (3 * n)` in both clauses.
+// The first n events of a block, and what their answers print. n stands beside the two slices, since `told_to` speaks of a whole block and a count:
+// shorter slices would put `take (3 * n)` in both clauses.
 fn run_gathered(
     b: Bench,
     running: &mut [u32],
@@ -85,7 +86,7 @@ fn run_gathered(
     }
 }
 
-// Lines from a place on, as many as one block of events holds, run and printed. It may be none.
+// Lines from a place on, as many as one block of events holds, run and printed. It may be none. from and left are `feed`'s: `pour` speaks of both.
 pub fn run_lines(
     b: Bench,
     carry: &mut Carry,

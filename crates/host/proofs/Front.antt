@@ -117,8 +117,6 @@ refusal_front R n S e m = tested (not (in_range R n S && leb e run_limit)) refl
     tested true q = refl
     tested false q =
         let r = range_of R n S (both _ _ (not-false _ q)).0 in
-        let a = r.most_cells in
-        let b = r.most_threads in
         let s = sound_front R n 266 m (omega arith) e in
         rw (s, short_front R n m (omega arith))
 

@@ -4,7 +4,6 @@ use mathlib.Core.Path.{◌≡◌, refl, ◌∙◌}
 use mathlib.Core.Logic.{◌≢◌}
 use mathlib.Core.List.{List, [], ◌∷◌}
 use native.Mathlib.Omega.{arith}
-use native.Mathlib.Nat.{div-add-mod, div-div-eq-div-mul, mod-eq_of_lt}
 use native.Mathlib.Decide.{ℕ_discrete}
 use lib.ListN.{length, take, set, get_or, length-append, length-set, get_or-append}
 use lib.Seq.{take-append-le, take_all, get_or_at, get_or-set_other, get_or-set_same, get_or-take}
@@ -58,12 +57,6 @@ byte_past m b (suc k) i h =
 -- a number is its four bytes
 four_bytes : (x : ℕ) → x < 4294967296 → x % 256 + 256 * (x / 256 % 256) + 65536 * (x / 65536 % 256) + 16777216 * (x / 16777216 % 256) ≡ x
 four_bytes x l =
-    let d2 : x / 256 / 256 ≡ x / 65536 = div-div-eq-div-mul x 256 256 in
-    let d3 : x / 65536 / 256 ≡ x / 16777216 = div-div-eq-div-mul x 65536 256 in
-    let q0 = div-add-mod x 256 in
-    let q1 = div-add-mod (x / 256) 256 in
-    let q2 = div-add-mod (x / 65536) 256 in
-    let q3 : x / 16777216 % 256 ≡ x / 16777216 = mod-eq_of_lt (omega arith) in
     omega arith
 
 -- a number after a store

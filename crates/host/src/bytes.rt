@@ -1,4 +1,6 @@
-// Numbers in bytes, low byte first. By places: in a zip with chunks_exact a proof knows none of the numbers stored, and one copy of four bytes would need a law of its own.
+// Numbers in bytes, low byte first.
+// By places: tried, and m by iter_mut in a zip, or b lent out by chunks_exact_mut or as_chunks_mut, comes back with none of its numbers known, so the `ensures` stays open.
+// Reading by as_chunks needs a law of its own, and with it the loop's invariant did not close either.
 ghost use Rattle.std.specs.Prelude.{◌≡◌, ◌+◌, ◌*◌, ◌≤◌, ◌<◌, length};
 ghost use Rattle.host.specs.Bytes.{number_at, set_number, numbers_to, bytes_to};
 

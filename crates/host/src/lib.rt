@@ -12,7 +12,7 @@ use rules::Refusal;
 // No image has more numbers: 4 · 64 + 8 + 2.
 const MOST: usize = 266;
 
-// Recovery of the bytes by way of the numbers in front of them: as many as there are, or as an image can have. Nobody reads what is left in image.
+// Recovery of the bytes by way of the numbers in front of them: as many as there are, or as an image can have. Nobody reads what is left in image. The four numbers come one by one, as C gives them.
 #[tactic(auto, using(crate::proofs::Front::sizes))]
 fn recover_by(
     cells: u32,
@@ -33,7 +33,7 @@ fn recover_by(
     Ok(())
 }
 
-// What C calls: 0, and the kept image as a cut would leave it, or the refusal.
+// What C calls: 0, and the kept image as a cut would leave it, or the refusal. A number and no Result, for C.
 #[unsafe(no_mangle)]
 pub extern "C" fn winterbeam_recover(
     cells: u32,

@@ -38,7 +38,7 @@ fn in_a_block(c: Control, running: &mut [u32], kept: &mut [u32], events: &[u32])
     ring::run(c, running, kept, events, &mut room).control
 }
 
-// All blocks, each run by what is passed: how many events were accepted.
+// All blocks, each run by what is passed: how many events were accepted. A block's number gives the cell that it begins at.
 fn run<F: Fn(Control, &mut [u32], &mut [u32], &[u32]) -> Control>(
     block: F,
     running: &mut [u32],

@@ -146,15 +146,6 @@ all_copies_are R n m p b h e = all_up p (copy_at R m) n b (rw (copies_are R n m 
 pub low_cells : (R e : ℕ) (m : List ℕ) → 4 * R ≤ length m → ((j : ℕ) → j < R → (cell_at R m j).index < e) → All (λ (c : Cell). c.index < e) (cells_in (take (4 * R) m))
 low_cells R e m h low = rw (cells_are R m h) (λ j d l. let l2 : j < R = rw (length-map-range_with_len (cell_at R m) 0 R) at l in rw (get_or-map-range_with_len (cell_at R m) 0 R j j d l2 (zero-add j)) (low j l2))
 
--- a test of all numbers below k
-pub all_below : (p : ℕ → Bool) (k : ℕ) (b : Bool) → (IsTrue b ↔ ((i : ℕ) → i < k → p i ≡ true)) → b ≡ all_to p k
-all_below p k true h = sym (at_all p k (h.0 refl))
-all_below p k false h = by (all_to p k) refl
-  where
-    by : (t : Bool) → all_to p k ≡ t → false ≡ t
-    by false e = refl
-    by true e = h.1 (λ i l. all_at p k i e l)
-
 -- every copy written at once
 pub copies_filled : (R v : ℕ) (m : List ℕ) (n : ℕ) → 4 * R + n ≤ length m → copies_to R v m n ≡ take (4 * R) m ++ (replicate n v ++ drop n (drop (4 * R) m))
 unfolding set_copy

@@ -8,6 +8,7 @@ use mathlib.Core.List.{List, [], ◌∷◌}
 use mathlib.Core.Bool.{Bool, true, false, cond}
 use lib.Dec.{eqb, ltb}
 use lib.ListN.{length, set, get_or}
+use Rattle.std.proofs.lemmas.List.{get_or_past}
 use Rattle.rules.specs.declared.Thread.{Thread}
 use Rattle.rules.specs.declared.Control.{Control}
 use Rattle.rules.specs.declared.Answer.TheVariants.{Refused}
@@ -63,14 +64,9 @@ pub needs_of : (s : State) (i : ℕ) → Sound s → i < max_threads
 needs_of s i h l = (h.control.ring.events, λ z. record { ring = h.control.ring; thread = busy_at (h.control.threads i l) z; long = h.long_running; image = h.running })
 
 -- a thread past the last is idle
-past : {A : Type 0} (l : List A) (i : ℕ) (d : A) → length l ≤ i → get_or l i d ≡ d
-past [] i d h = refl
-past (x ∷ l) zero d h = absurd (omega arith)
-past (x ∷ l) (suc i) d h = past l i d (omega arith)
-
 past-thread : (c : Control) (i : ℕ) → length c.thread ≤ i → thread_at c i ≡ idle
 unfolding thread_at
-past-thread c i h = past c.thread i idle h
+past-thread c i h = get_or_past c.thread i idle h
 
 pub any_needs_of : (s : State) (i : ℕ) → Sound s → length s.control.thread ≤ max_threads
     → (s.control.ring.events ≤ run_limit) × ((thread_at s.control i).place ≢ 0 → Ready s.control.ring i (thread_at s.control i) s.running)

@@ -1,10 +1,11 @@
 -- For each public function: no second outcome satisfies its statement.
-use Prim.Native.Nat.{ℕ}
+use Prim.Native.Nat.{ℕ, ◌+◌}
 use mathlib.Core.Path.{◌≡◌, refl, sym, ap, ◌∙◌}
 use mathlib.Core.Bool.{Bool, cond}
 use lib.Dec.{eqb}
 use Rattle.std.specs.Prelude.{Result, Ok, Err}
 use mathlib.Core.List.{List}
+use denote.Ref.{Bor}
 use Rattle.rules.specs.declared.Line.{Line}
 use Rattle.rules.specs.declared.Control.{Control}
 use Rattle.rules.specs.declared.Outcome.{Outcome}
@@ -19,7 +20,7 @@ use Rattle.rules.specs.Events.{event, setup}
 use Rattle.rules.specs.Block.{Upto, upto, event_count, run_block}
 use Rattle.std.specs.Result.{result_unwrap_or}
 use Rattle.rules.specs.Listing.{host_kept, listed_count, listed_room}
-use Rattle.rules.specs.Reader.{cell_part}
+use Rattle.rules.specs.Reader.{cell_part, part_from}
 use Rattle.ring.specs.declared.Started.{Started}
 use Rattle.ring.specs.declared.Ran.{Ran}
 
@@ -139,5 +140,8 @@ module _ (R n S : ℕ) where
   list_only e kept room r s a b p q =
       (same_count r s (p.0 ∙ sym q.0) (p.1 ∙ sym q.1), p.2 ∙ sym q.2)
 
-pub read_cell_only : (which : Bool) (R j : ℕ) (running kept p q : List ℕ) → p ≡ cell_part which R j running kept → q ≡ cell_part which R j running kept → p ≡ q
-read_cell_only which R j running kept p q e f = e ∙ sym f
+pub read_cell_only : (which : Bool) (R j : ℕ) (running kept p q : Bor (List ℕ))
+    → (p.now ≡ cell_part which R j running.now kept.now) × (p.ref_ptr.0 ≡ cond which kept.ref_ptr.0 running.ref_ptr.0) × (p.ref_ptr.1 ≡ cond which kept.ref_ptr.1 running.ref_ptr.1 + part_from which R j running.now kept.now)
+    → (q.now ≡ cell_part which R j running.now kept.now) × (q.ref_ptr.0 ≡ cond which kept.ref_ptr.0 running.ref_ptr.0) × (q.ref_ptr.1 ≡ cond which kept.ref_ptr.1 running.ref_ptr.1 + part_from which R j running.now kept.now)
+    → (p.now ≡ q.now) × (p.ref_ptr.0 ≡ q.ref_ptr.0) × (p.ref_ptr.1 ≡ q.ref_ptr.1)
+read_cell_only which R j running kept p q e f = (e.0 ∙ sym f.0, e.1 ∙ sym f.1, e.2 ∙ sym f.2)

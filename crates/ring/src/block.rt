@@ -1,4 +1,5 @@
-// A block of events as numbers: three for each event, six for each answer.
+// A block of events as numbers: three for each event, six for each answer. How many fit the block and the room stays a clause: a struct of a slice and that fact would be no shorter.
+// n stands beside them, since `run_to` speaks of a whole block and a count.
 ghost use Rattle.std.specs.Prelude.{◌≡◌, ◌+◌, ◌*◌, ◌≤◌, length};
 ghost use Rattle.std.proofs.lemmas.List.Edits.{sets};
 ghost use Rattle.rules.specs.State.{State, state};
@@ -37,7 +38,7 @@ fn tell(room: &mut [u32], j: usize, a: Answer)
 }
 
 // The first n events of a state that is not sound, each refused.
-// By index: after room.chunks_exact_mut(6) a proof knows the room's length and none of its numbers, so the `ensures` stays open.
+// By index: tried, and after room.chunks_exact_mut(6) a proof knows the room's length and none of its numbers, so the `ensures` stays open.
 pub fn refuse_to(r: Refusal, block: &[u32], room: &mut [u32], n: usize)
     requires { (3 * n ≤ length block.now) × (6 * n ≤ length room.old) }
     ensures { (s : State) → number_of r ≡ unsound s → upto s room.new ≡ run_to s block.now room.old n }
@@ -52,8 +53,8 @@ pub fn refuse_to(r: Refusal, block: &[u32], room: &mut [u32], n: usize)
     }
 }
 
-// The first n events of a sound state, by index as above. The record is not moved for an event of one thread, nor for a write-back. Put, take and go have an arm each, since each calls
-// another function: as one, an event would be matched twice.
+// The first n events of a sound state, by index, since the room is stored to as above. The record is not moved for an event of one thread, nor for a write-back.
+// Put, take and go have an arm each, since each calls another function: as one, an event would be matched twice.
 #[tactic(auto, unfolding(rules::specs::Record::thread_at))]
 pub fn run_to(
     c: Control,
@@ -74,42 +75,42 @@ pub fn run_to(
             None => Refusal::Text.into(),
             Some(e) => match e {
                 Event::Put(i, x) if i < g.threads => {
-                    let t = Turn {
+                    let mut t = Turn {
                         ring: g,
                         who: i,
                         thread: threads[i as usize],
                     };
-                    let m = one::put(t, x);
-                    g = m.ring;
-                    threads[i as usize] = m.thread;
-                    m.answer
+                    let answer = one::put(&mut t, x);
+                    g = t.ring;
+                    threads[i as usize] = t.thread;
+                    answer
                 }
                 Event::Take(i) if i < g.threads => {
-                    let t = Turn {
+                    let mut t = Turn {
                         ring: g,
                         who: i,
                         thread: threads[i as usize],
                     };
-                    let m = one::take(t);
-                    g = m.ring;
-                    threads[i as usize] = m.thread;
-                    m.answer
+                    let answer = one::take(&mut t);
+                    g = t.ring;
+                    threads[i as usize] = t.thread;
+                    answer
                 }
                 Event::Go(i) if i < g.threads => {
-                    let t = Turn {
+                    let mut t = Turn {
                         ring: g,
                         who: i,
                         thread: threads[i as usize],
                     };
-                    let m = one::go(t, running);
-                    g = m.ring;
-                    threads[i as usize] = m.thread;
-                    m.answer
+                    let answer = one::go(&mut t, running);
+                    g = t.ring;
+                    threads[i as usize] = t.thread;
+                    answer
                 }
                 Event::Back(line) => match refusals::of_back(g, line) {
                     Err(r) => r.into(),
                     Ok(()) => {
-                        threads = events::written(Shape::of(g), threads, line, running, kept);
+                        events::written(Shape::of(g), &mut threads, line, running, kept);
                         g = g.count();
                         Answer::Written(line)
                     }

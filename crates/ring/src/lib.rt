@@ -15,7 +15,7 @@ mod rows;
 mod sound;
 mod takes;
 
-ghost use Rattle.std.specs.Prelude.{◌≡◌};
+ghost use Rattle.std.specs.Prelude.{◌≡◌, ◌+◌, cond};
 ghost use Rattle.std.specs.Result.{result_unwrap_or};
 ghost use Rattle.rules.specs.Answers.{numbers};
 ghost use Rattle.rules.specs.State.{state, out};
@@ -23,12 +23,12 @@ ghost use Rattle.rules.specs.Refusal.{refusal_of};
 ghost use Rattle.rules.specs.Refusals.{setup_refusal, kept_refusal, listing_refusal};
 ghost use Rattle.rules.specs.Events.{event, setup};
 ghost use Rattle.rules.specs.Listing.{host_kept, listed_count, listed_room};
-ghost use Rattle.rules.specs.Reader.{cell_part};
+ghost use Rattle.rules.specs.Reader.{cell_part, part_from};
 ghost use Rattle.rules.specs.Block.{event_count, upto, run_block};
 
 use rules::{Control, Event, Line, Outcome, Refusal};
 
-// What setup hands back: the record, one of zeros where setup is refused.
+// What setup hands back. No Result of a record: a refused setup hands back one of zeros, which clause `left` says.
 #[derive(Clone, Copy)]
 pub struct Started {
     pub control: Control,
@@ -198,6 +198,7 @@ pub fn list(
 }
 
 // The four numbers of one cell, as part of the image that is told (true: kept, false: running); a part of length 0 is the refusal.
+// Both are document 01's: a flag that names the image, and that part in place of a Result.
 pub fn read_cell<'a>(
     which: bool,
     cells: u32,
@@ -205,7 +206,9 @@ pub fn read_cell<'a>(
     running: &'a [u32],
     kept: &'a [u32],
 ) -> &'a [u32]
-    ensures { result.now ≡ cell_part which cells cell running.now kept.now }
+    ensures numbers { result.now ≡ cell_part which cells cell running.now kept.now }
+    ensures block { result.ref_ptr.0 ≡ cond which kept.entry.ref_ptr.0 running.entry.ref_ptr.0 }
+    ensures place { result.ref_ptr.1 ≡ cond which kept.entry.ref_ptr.1 running.entry.ref_ptr.1 + part_from which cells cell running.now kept.now }
 {
     reader::read(which, cells, cell, running, kept)
 }

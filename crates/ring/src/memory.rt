@@ -79,7 +79,7 @@ impl Shape {
         self.closed_at() + 2
     }
 
-    // Cell j.
+    // Cell j, field by field, as the next one: by way of an array they would be no plainer.
     #[tactic(auto, unfolding(rules::specs::Memory::cell_at))]
     pub fn cell(self, m: &[u32], j: u32) -> Cell
         requires { (j < self.cells) × (4 * self.cells ≤ length m.now) }
@@ -117,7 +117,8 @@ impl Shape {
         }
     }
 
-    // Each cell becomes what f makes of its place and what it was, by any function g that gives each result that f may give. By places, since a cell is stored where it stands: under chunks_exact_mut a proof knows none of the numbers.
+    // Each cell becomes what f makes of its place and what it was, by any function g that gives each result that f may give.
+    // By places: tried, and m lent out by chunks_exact_mut or as_chunks_mut comes back with none of its numbers known, so the `ensures` stays open.
     pub fn map_cells<F: Fn(u32, Cell) -> Cell>(self, m: &mut [u32], f: F)
         requires fits { 4 * self.cells ≤ length m.old }
         requires takes { (j : ℕ) → j < self.cells → F.pre f j (cell_at self.cells m.old j) }
@@ -160,8 +161,7 @@ impl Shape {
         requires { 4 * self.cells + self.threads ≤ length m.old }
         ensures { m.new ≡ copies_to self.cells v m.old self.threads }
     {
-        let a = 4 * (self.cells as usize);
-        m[a..a + (self.threads as usize)].fill(v);
+        m[self.copies_at()..self.closed_at()].fill(v);
     }
 
     // Closed.
@@ -201,7 +201,7 @@ impl Shape {
     }
 }
 
-// The first k numbers of m over those of r.
+// The first k numbers of m over those of r. k stands beside them: `over_to` speaks of a count.
 #[tactic(auto, using(crate::proofs::Images::over_front))]
 pub fn over(m: &[u32], r: &mut [u32], k: usize)
     requires { (k ≤ length m.now) × (k ≤ length r.old) }

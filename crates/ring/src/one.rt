@@ -3,57 +3,51 @@ ghost use Rattle.std.specs.Prelude.{◌≡◌, ◌≢◌, List, ℕ, ◌<◌, �
 ghost use Rattle.rules.specs.Numbers.{run_limit};
 ghost use Rattle.rules.specs.Table.{leaves, row};
 ghost use Rattle.rules.specs.Facts.{Ready};
-ghost use Rattle.ring.specs.OneThread.{put_of, take_of, go_of};
+ghost use Rattle.ring.specs.OneThread.{moved, put_of, take_of, go_of};
 
 use crate::rows::Turn;
 use crate::{puts, refusals, takes};
+use rules::Answer;
 use rules::places::{P1, P10, T1, T10};
-use rules::{Answer, Moved, Thread};
 
 // A put begins.
 #[tactic(auto, using(rules::proofs::Limit::counts_below), unfolding(crate::specs::OneThread::put_of, crate::specs::OneThread::unless))]
-pub fn put(t: Turn, x: u32) -> Moved
-    requires { t.ring.events ≤ run_limit }
-    ensures { (m : List ℕ) → leaves result m ≡ put_of t.ring t.who t.thread x m }
+pub fn put(t: &mut Turn, x: u32) -> Answer
+    requires { t.old.ring.events ≤ run_limit }
+    ensures { (m : List ℕ) → leaves (moved t.new.ring t.new.thread result) m ≡ put_of t.old.ring t.old.who t.old.thread x m }
 {
-    match refusals::of_put(t, x) {
-        Err(r) => t.done(r.into()),
-        Ok(()) => Moved {
-            ring: t.ring.count(),
-            thread: Thread {
-                place: P1,
-                item: x,
-                ..t.thread
-            },
-            answer: Answer::Begun(t.who),
-        },
+    match refusals::of_put(*t, x) {
+        Err(r) => r.into(),
+        Ok(()) => {
+            t.ring = t.ring.count();
+            t.thread.place = P1;
+            t.thread.item = x;
+            Answer::Begun(t.who)
+        }
     }
 }
 
 // A take begins.
 #[tactic(auto, using(rules::proofs::Limit::counts_below), unfolding(crate::specs::OneThread::take_of, crate::specs::OneThread::unless))]
-pub fn take(t: Turn) -> Moved
-    requires { t.ring.events ≤ run_limit }
-    ensures { (m : List ℕ) → leaves result m ≡ take_of t.ring t.who t.thread m }
+pub fn take(t: &mut Turn) -> Answer
+    requires { t.old.ring.events ≤ run_limit }
+    ensures { (m : List ℕ) → leaves (moved t.new.ring t.new.thread result) m ≡ take_of t.old.ring t.old.who t.old.thread m }
 {
-    match refusals::of_take(t) {
-        Err(r) => t.done(r.into()),
-        Ok(()) => Moved {
-            ring: t.ring.count(),
-            thread: Thread {
-                place: T1,
-                ..t.thread
-            },
-            answer: Answer::Begun(t.who),
-        },
+    match refusals::of_take(*t) {
+        Err(r) => r.into(),
+        Ok(()) => {
+            t.ring = t.ring.count();
+            t.thread.place = T1;
+            Answer::Begun(t.who)
+        }
     }
 }
 
-// One row of the step table. A busy thread of a sound record has one of the twenty places.
+// One row of the step table, by document 01's one match on the place's number, each arm a small function for its row. A busy thread of a sound record has one of the twenty places.
 #[tactic(auto, unfolding(rules::specs::Table::row))]
-fn row(t: Turn, m: &mut [u32]) -> Moved
-    requires { Ready t.ring t.who t.thread m.old × (t.ring.events < run_limit) }
-    ensures { leaves result m.new ≡ row t.ring t.who t.thread m.old }
+fn row(t: &mut Turn, m: &mut [u32]) -> Answer
+    requires { Ready t.old.ring t.old.who t.old.thread m.old × (t.old.ring.events < run_limit) }
+    ensures { leaves (moved t.new.ring t.new.thread result) m.new ≡ row t.old.ring t.old.who t.old.thread m.old }
 {
     match t.thread.place {
         P1..=P10 => puts::put_row(t, m),
@@ -63,19 +57,18 @@ fn row(t: Turn, m: &mut [u32]) -> Moved
 }
 
 // A step.
+#[inline(always)]
 #[tactic(auto, unfolding(crate::specs::OneThread::go_of, crate::specs::OneThread::unless))]
-pub fn go(t: Turn, m: &mut [u32]) -> Moved
-    requires { (t.ring.events ≤ run_limit) × (t.thread.place ≢ 0 → Ready t.ring t.who t.thread m.old) }
-    ensures { leaves result m.new ≡ go_of t.ring t.who t.thread m.old }
+pub fn go(t: &mut Turn, m: &mut [u32]) -> Answer
+    requires { (t.old.ring.events ≤ run_limit) × (t.old.thread.place ≢ 0 → Ready t.old.ring t.old.who t.old.thread m.old) }
+    ensures { leaves (moved t.new.ring t.new.thread result) m.new ≡ go_of t.old.ring t.old.who t.old.thread m.old }
 {
-    match refusals::of_go(t) {
-        Err(r) => t.done(r.into()),
+    match refusals::of_go(*t) {
+        Err(r) => r.into(),
         Ok(()) => {
-            let after = row(t, m);
-            Moved {
-                ring: after.ring.count(),
-                ..after
-            }
+            let answer = row(t, m);
+            t.ring = t.ring.count();
+            answer
         }
     }
 }

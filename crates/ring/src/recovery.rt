@@ -1,4 +1,5 @@
 // What a cut reads from the kept image, and what it leaves there.
+// That indexes fit stays a clause, and the mark a number beside the image: a struct of the three would be no shorter, and both belong to one call.
 ghost use Rattle.std.specs.Prelude.{◌≡◌, ◌≤◌, ◌+◌, ◌*◌, length, take};
 ghost use Rattle.std.specs.List.{All};
 ghost use Rattle.rules.specs.Upto.{max_to};
@@ -49,11 +50,7 @@ fn tail_of(s: Shape, mark: u32, m: &[u32]) -> u32
     ensures { result ≡ tail_of s.cells mark m.now }
 {
     s.all_cells(m)
-        .filter_map(|c| if is_queued(mark, c) {
-            Some(c.index + 1)
-        } else {
-            None
-        })
+        .filter_map(|c| is_queued(mark, c).then(|| c.index + 1))
         .fold(mark, u32::max)
 }
 

@@ -1,4 +1,4 @@
-// Each entry's refusals, in order.
+// Each entry's refusals, in order. Numbers and images come one by one, as the entries are given them.
 ghost use Rattle.std.specs.Prelude.{◌≡◌, ◌<◌, ◌≢◌, IfOk, true, List, ℕ, length, ◌≤◌};
 ghost use Rattle.rules.specs.Numbers.{run_limit};
 ghost use Rattle.rules.specs.State.{state};
@@ -68,7 +68,7 @@ pub fn unsound(c: Control, running: &[u32], kept: &[u32]) -> Result<(), Refusal>
 }
 
 // What each event tests then. That the event count is within the limit is asked and stands in no type: a `Ring` is part of the public record, which takes any numbers.
-//  A cut is refused only at the run limit.
+// A cut is refused only at the run limit.
 pub fn of_cut(g: Ring) -> Result<(), Refusal>
     requires { g.events ≤ run_limit }
     ensures refusal { refusal_of result ≡ cut_refusal g }
@@ -166,7 +166,7 @@ pub fn of_kept(
     Ok(shape)
 }
 
-// The listing: host recovery's tests, and room for so many numbers.
+// The listing: host recovery's tests, and room for so many numbers, since of the room its length is asked alone.
 #[tactic(auto, using(crate::proofs::Laws::listing_by))]
 pub fn of_listing(
     cells: u32,

@@ -10,7 +10,9 @@ ghost use Rattle.ring.specs.OneThread.{moved};
 use crate::memory::Shape;
 use rules::{Answer, By, Cell, Control, Line, Moved, Ring, Thread};
 
-// A thread's turn: the ring's numbers, the thread's number and its record.
+// A thread's turn: the ring's numbers, the thread's number and its record. What a row needs, `Ready`, stays a clause: it speaks of the running image too, so a ghost field here would leave
+// that image's length and Tail to be asked for, and ask soundness of the rows that need none. So does `events ≤ run_limit`, which a turn of any record need not meet.
+// A row without an image asks what it needs of `Ready` alone: `SoundRing`, or `0 < cells`.
 #[derive(Clone, Copy)]
 pub struct Turn {
     pub ring: Ring,
@@ -59,12 +61,12 @@ impl Turn {
         }
     }
 
-    // The turn ends, and its thread goes to a place.
-    pub fn to(mut self, place: u32, answer: Answer) -> Moved
-        ensures { result ≡ moved self.ring (to self.thread place) answer }
+    // The thread goes to a place.
+    pub fn to(&mut self, place: u32, answer: Answer) -> Answer
+        ensures { moved self.new.ring self.new.thread result ≡ moved self.old.ring (to self.old.thread place) answer }
     {
         self.thread.place = place;
-        self.done(answer)
+        answer
     }
 
     // Which cell is the thread's: its number mod R.
@@ -102,22 +104,22 @@ impl Turn {
     }
 
     // P4, T3, T4, T5: it doesn't match, and the thread goes to a place.
-    pub fn missed(self, place: u32) -> Moved
-        requires { 0 < self.ring.cells }
-        ensures { result ≡ moved self.ring (to self.thread place) (Answer.Missed (by self.who self.thread.number) (spot self.ring self.thread)) }
+    pub fn missed(&mut self, place: u32) -> Answer
+        requires { 0 < self.old.ring.cells }
+        ensures { moved self.new.ring self.new.thread result ≡ moved self.old.ring (to self.old.thread place) (Answer.Missed (by self.old.who self.old.thread.number) (spot self.old.ring self.old.thread)) }
     {
         self.to(place, Answer::Missed(self.by(), self.spot()))
     }
 
     // P6, P10, T10: the last answer once nothing is awaited.
     #[tactic(auto, unfolding(rules::specs::Table::row_wait))]
-    pub fn wait(mut self, last: Answer) -> Moved
-        ensures { (m : List ℕ) → leaves result m ≡ row_wait self.ring self.who self.thread m last }
+    pub fn wait(&mut self, last: Answer) -> Answer
+        ensures { (m : List ℕ) → leaves (moved self.new.ring self.new.thread result) m ≡ row_wait self.old.ring self.old.who self.old.thread m last }
     {
         if self.thread.awaited == Line::None {
             self.thread = Thread::idle();
-            return self.done(last);
+            return last;
         }
-        self.done(Answer::Waiting(self.by()))
+        Answer::Waiting(self.by())
     }
 }

@@ -7,7 +7,7 @@ use bench::{Bench, Carry, Phase};
 use std::io;
 use std::io::Read;
 
-// A block is fed, and its output written as often as the buffer is full.
+// A block is fed, and its output written as often as the buffer is full. All is lent one by one, as `feed` takes it.
 fn pour(
     rt: &impl Print,
     mut bench: Bench,

@@ -2,21 +2,21 @@
 use Prim.Native.Nat.{ℕ, ◌<◌, ◌≤◌, max}
 use mathlib.Core.Path.{◌≡◌, refl, sym, ap, ◌∙◌}
 use mathlib.Core.Bool.{Bool, true, false, cond}
-use mathlib.Core.List.{List, map}
+use mathlib.Core.List.{List}
 use native.Mathlib.Omega.{arith}
-use lib.ListN.{length, get_or, length-map, get_or-map}
+use lib.ListN.{length, length-map}
 use lib.Dec.{eqb}
 use borrow.Author.Tests.{ltb-true, eqb-true, eqb-false}
 use Rattle.rules.specs.declared.Line.{Line}
 use Rattle.rules.specs.declared.Line.TheVariants.{None, Copy, Tail, Cell as CellLine}
-use Rattle.rules.specs.declared.Thread.{Thread}
-use Rattle.rules.specs.Record.{idle, thread_at}
+use Rattle.rules.specs.Record.{thread_at}
 use Rattle.rules.specs.Memory.{cell_at, copy_at, closed_at, set_closed, size}
-use Rattle.rules.specs.Line.{line_exists, carries_cell, carries_copy, carries_tail, carried, ends, released}
+use Rattle.rules.specs.Line.{line_exists, carries_cell, carries_copy, carries_tail, carried, released}
 use Rattle.rules.specs.State.{State}
 use Rattle.rules.specs.Events.{write_back}
 use Rattle.rules.specs.Account.{Account, enters, writes}
 use Rattle.rules.proofs.Tests.{cond_cases}
+use Rattle.rules.proofs.Keep.{released_in}
 use Rattle.rules.proofs.Memory.{length-set_cell, length-set_copy, length-set_closed, length-set_tail, cell_same, cell_other, cell_copy, cell_closed, cell_tail, copy_same, copy_other, copy_cell, copy_closed, copy_tail, closed_cell, closed_copy, closed_same, closed_tail}
 use Rattle.rules.proofs.D3Cells.{back_keeps}
 use Rattle.rules.proofs.D3Threads.{Frame, Carried, free}
@@ -55,14 +55,6 @@ module _ (R n : ℕ) (run kept : List ℕ) (len : size R n ≤ length kept) wher
   carried_closed (CellLine i) x = closed_cell R kept i (ltb-true i R x) _ n
   carried_closed (Copy i) x = closed_copy R n kept i _ (ltb-true i n x)
   carried_closed Tail x = closed_tail R n (set_closed R n kept _) _ ∙ closed_same R n kept _ (omega arith)
-
--- the threads after a release
-pub released-idle : (l : Line) → released l idle ≡ idle
-unfolding released ends
-released-idle l = refl
-
-pub released_at : (l : Line) (ts : List Thread) (i : ℕ) → get_or (map (released l) ts) i idle ≡ released l (get_or ts i idle)
-released_at l ts i = rw (released-idle l) at (get_or-map (released l) ts i idle)
 
 -- what a write-back leaves in the kept image: what the line carries from the running one, the rest as it was
 module _ (s : State) (long : size (cells_of s) (threads_of s) ≤ length s.kept) (l : Line) where
@@ -103,7 +95,7 @@ keep_back s a v l x =
       head = v.head;
       tail = v.tail;
       shut = rw closed_is (cond_cases (λ y. y ≡ 1 → closed_at (cells_of s) (threads_of s) s.running ≡ 1) (carries_tail l) (λ e q. q) (λ e. v.shut));
-      thrs = λ i. rw (released_at l s.control.thread i) (free _ _ (frame s a) _ l carry i _ (v.thrs i));
+      thrs = λ i. rw (released_in l s.control.thread i) (free _ _ (frame s a) _ l carry i _ (v.thrs i));
     }
   where
     of_copy : (b : Bool) (t : ℕ) → t < threads_of s

@@ -19,9 +19,9 @@ use Rattle.rules.specs.Cut.{pass_mark, queued, tail_of, head_of, finds, mended, 
 use Rattle.rules.specs.State.{State}
 use Rattle.rules.specs.Events.{cut}
 use Rattle.rules.specs.Account.{Account, enters, mark_of, restarts}
-use Rattle.rules.proofs.Tests.{cond_cases, both, not_both, getD-all}
+use Rattle.rules.proofs.Tests.{cond_cases, both, not_both, get_or-all}
 use Rattle.rules.proofs.Memory.{length-over_to, over_at, agree_cell, agree_copy, agree_closed, agree_tail}
-use Rattle.rules.proofs.Recovered.{max-over, max_under, is_queued, head_under, head_low, length_recovered, cell_recovered, copy_recovered, tail_recovered, closed_recovered}
+use Rattle.rules.proofs.Recovered.{max-over, max_under, is_queued, head_low, head_to_tail, length_recovered, cell_recovered, copy_recovered, tail_recovered, closed_recovered}
 use Rattle.rules.proofs.D3Cells.{Held, CellsOk, cells_ext}
 use Rattle.rules.proofs.D3Threads.{idle_ok}
 use Rattle.rules.proofs.D3Inv.{Inv, Good, cells_of, threads_of, top_of, kept_cell}
@@ -173,8 +173,8 @@ module _ (s : State) (a : Account) (v : Inv s a) where
   landed_too x z = let q = rest_is x z in λ e. q.0 (sym (v.cells.sub x q.0) ∙ e)
 
   low_tail : head ≤ tail_of (cells_of s) mark s.kept
-  unfolding head head_of
-  low_tail = head_under R mark s.kept (tail_of R mark s.kept) R
+  unfolding head
+  low_tail = head_to_tail R mark s.kept
 
   cells_cut : (top : ℕ) (f : Found) → f.head ≡ head
       → CellsOk (cells_of s) top (cell_at (cells_of s) (cut s).state.kept) (cell_at (cells_of s) (cut s).state.kept) (restarts (cells_of s) (threads_of s) a f)
@@ -215,7 +215,7 @@ module _ (s : State) (a : Account) (v : Inv s a) where
     head = omega (arith, cut_head);
     tail = omega (arith, run_tail, low_tail);
     shut = λ q. agree_closed R n (cut s).state.kept (cut s).state.running over ∙ q;
-    thrs = λ i. rw (getD-all 8 i idle) (idle_ok _ _ _ i);
+    thrs = λ i. rw (get_or-all 8 i idle) (idle_ok _ _ _ i);
   }
 
   pub keep_cut : Good s a (cut s)

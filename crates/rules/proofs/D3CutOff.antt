@@ -17,8 +17,8 @@ use Rattle.rules.specs.State.{State}
 use Rattle.rules.specs.Events.{cut}
 use Rattle.rules.specs.Account.{Account, enters, mark_of, restarts}
 use Rattle.rules.specs.Tale.{In, CutOff, Tale, tells, Gone}
-use Rattle.rules.proofs.Tests.{getD-all}
-use Rattle.rules.proofs.Recovered.{tail_from, head_under, head_from}
+use Rattle.rules.proofs.Tests.{get_or-all}
+use Rattle.rules.proofs.Recovered.{mark_to_head, head_to_tail}
 use Rattle.rules.proofs.D3Inv.{Inv, cells_of, threads_of, run_cell}
 use Rattle.rules.proofs.D3Cut.{mark_is, mark_top, base_mark, mark, rest, rest_is, rest_of, run_tail, cut_closed, keep_cut}
 use Rattle.rules.proofs.D3Queue.{below_tail, above_head}
@@ -40,14 +40,6 @@ module _ (s : State) (a : Account) (v : Inv s a) (τ : Tale) (w : Told s a τ) w
 
   abbrev tl : ℕ
   tl = tail_of R pm s.kept
-
-  pub pm_hd : pass_mark (cells_of s) (threads_of s) s.kept ≤ head_of (cells_of s) (pass_mark (cells_of s) (threads_of s) s.kept) s.kept
-  unfolding head_of tail_of
-  pm_hd = head_from R pm s.kept (tail_of R pm s.kept) R (tail_from R pm s.kept R)
-
-  hd_tl : head_of (cells_of s) (pass_mark (cells_of s) (threads_of s) s.kept) s.kept ≤ tail_of (cells_of s) (pass_mark (cells_of s) (threads_of s) s.kept) s.kept
-  unfolding head_of
-  hd_tl = head_under R pm s.kept (tail_of R pm s.kept) R
 
   abbrev now : CutOff
   now = record { found = finds (cells_of s) (threads_of s) s.kept; held = τ.holds }
@@ -92,20 +84,20 @@ module _ (s : State) (a : Account) (v : Inv s a) (τ : Tale) (w : Told s a τ) w
       holder : τ.holds t ≡ some x → Within 12 20 (thread_at s.control t) x
       holder q = elim (dec_le 12 (thread_at s.control t).place) [
         | yes p ↦ (let k = (w.says t).held p in record { from = p; upto = (v.thrs t).nums.place; is = cc })
-        | no p ↦ (let k = (w.says t).none_held (omega arith) in let f : ◌≡◌ {A = ℕ} 0 1 = cc in absurd (omega arith))
+        | no p ↦ (let k = (w.says t).none_held (omega arith) in cc)
       ]
 
       unhanded : Within 12 20 (thread_at s.control t) x → τ.handed x ≡ []
       unhanded k = elim (w.hands x) [ inl q ↦ q | inr q ↦ absurd (q.2.free t k) ]
 
       go : (c ≡ now) ⊎ In c τ.cuts → (x < hd) × (τ.handed x ≡ [])
-      go (inl q) = let b : x < pm = rw q at l in (omega (arith, pm_hd), unhanded (holder (rw q at e)))
-      go (inr q) = let k = w.gones x (c, q, (t, (tn, e, l))) in (omega (arith, k.0, base_mark s a v, mark_is s a v, pm_hd), k.1)
+      go (inl q) = let b : x < pm = rw q at l in (omega (arith, mark_to_head R pm s.kept), unhanded (holder (rw q at e)))
+      go (inr q) = let k = w.gones x (c, q, (t, (tn, e, l))) in (omega (arith, k.0, base_mark s a v, mark_is s a v, mark_to_head R pm s.kept), k.1)
 
   -- every thread is at rest
   at_rest : (P : Thread → Type 0) (i : ℕ) → P idle → P (thread_at (cut s).state.control i)
   unfolding cut thread_at
-  at_rest P i p = rw (getD-all 8 i idle) p
+  at_rest P i p = rw (get_or-all 8 i idle) p
 
   rest_within : (lo hi i x : ℕ) → 1 ≤ lo → Within lo hi (thread_at (cut s).state.control i) x → ⊥
   rest_within lo hi i x l = at_rest (λ y. Within lo hi y x → ⊥) i (λ k. omega arith)
@@ -129,10 +121,10 @@ module _ (s : State) (a : Account) (v : Inv s a) (τ : Tale) (w : Told s a τ) w
     q,
     record {
       item = f.item;
-      under = omega (arith, f.under, mark_is s a v, pm_hd, hd_mark);
+      under = omega (arith, f.under, mark_is s a v, mark_to_head R pm s.kept, hd_mark);
       free = λ t k. rest_within 12 20 t x (omega arith) k;
       from = f.from;
-      is = λ b. absurd (omega (arith, f.under, mark_is s a v, pm_hd));
+      is = λ b. absurd (omega (arith, f.under, mark_is s a v, mark_to_head R pm s.kept));
     },
   )
 
@@ -147,7 +139,7 @@ module _ (s : State) (a : Account) (v : Inv s a) (τ : Tale) (w : Told s a τ) w
       | yes l ↦ (let d : a.durable x ≡ i = f.kept (omega (arith, base_mark s a v, mark_is s a v)) in
           let o : a.durable x ≢ 0 = λ e. f.item (sym d ∙ e) in
           record { item = f.item; under = below_tail s a v x l o; free = λ t k. rest_within 2 10 t x (omega arith) k; from = f.from; kept = λ b. rest_of s a v x l ∙ d; past = λ b. absurd (omega (arith, above_head s a v x l o)) })
-      | no l ↦ record { item = f.item; under = omega (arith, pm_hd, hd_tl); free = λ t k. rest_within 2 10 t x (omega arith) k; from = f.from; kept = λ b. absurd (omega (arith, pm_hd)); past = λ b. fell (dec_le a.head x) (omega arith) }
+      | no l ↦ record { item = f.item; under = omega (arith, mark_to_head R pm s.kept, head_to_tail R pm s.kept); free = λ t k. rest_within 2 10 t x (omega arith) k; from = f.from; kept = λ b. absurd (omega (arith, mark_to_head R pm s.kept)); past = λ b. fell (dec_le a.head x) (omega arith) }
     ],
   )
     where

@@ -4,9 +4,9 @@ use mathlib.Core.Path.{◌≡◌}
 use mathlib.Core.Logic.{◌≢◌}
 use mathlib.Core.List.{List}
 use native.Mathlib.Omega.{arith}
-use lib.Dec.{lit<, eqb, ltb}
-use borrow.Author.Tests.{ltb-true, ltb-false, leb-false, eqb-true, eqb-false, not-false}
-use mathlib.Core.Bool.{true, not}
+use lib.Dec.{eqb, ltb}
+use borrow.Author.Tests.{ltb-true, ltb-false, eqb-true, eqb-false}
+use mathlib.Core.Bool.{true}
 use Rattle.rules.specs.declared.Line.{Line}
 use Rattle.rules.specs.declared.Thread.{Thread}
 use Rattle.rules.specs.declared.Ring.{Ring}
@@ -15,10 +15,13 @@ use Rattle.rules.specs.declared.Event.TheVariants.{Put, Take, Go, Back, Cut as C
 use Rattle.rules.specs.Record.{thread_at}
 use Rattle.rules.specs.Line.{line_exists}
 use Rattle.rules.specs.State.{State, Out, refused, accept}
-use Rattle.rules.specs.Refusals.{refuse, full, no_thread, is_idle, unsound, own_refusal}
+use Rattle.rules.specs.Refusals.{unsound, own_refusal}
 use Rattle.rules.specs.Events.{begin_put, begin_take, step_thread, write_back, cut, does, inner, event}
 use Rattle.rules.specs.Table.{Step, row_p1, row_p2, row_p3, row_p4, row_p5, row_p6, row_p7, row_p8, row_p9, row_p10, row_t1, row_t2, row_t3, row_t4, row_t5, row_t6, row_t7, row_t8, row_t9, row_t10, put_row, take_row, row}
-use Rattle.rules.proofs.Tests.{cond_cases, unrefused}
+use Rattle.rules.specs.Facts.{SoundRecord}
+use Rattle.rules.proofs.Tests.{cond_cases}
+use Rattle.rules.proofs.Sound.{sound_of}
+use Rattle.rules.proofs.Accepted.{put_accepted, take_accepted, go_accepted, back_accepted}
 
 pub record Rows (P : Step → Type 0) (g : Ring) (i : ℕ) (t : Thread) (m : List ℕ) : Type 0 where
   pub p1 : t.place ≡ 1 → P (row_p1 g i t m)
@@ -95,29 +98,19 @@ pub record Doing (P : Event → Out → Type 0) (s : State) : Type 0 where
   pub cuts : P CutEvent (cut s)
 
 module _ (P : Event → Out → Type 0) (s : State) (d : Doing P s) where
-  -- past 7, and past 7 and 2
-  room : (k : ℕ) → refuse (full s.control.ring) 7 k ≡ 0 → k ≡ 0
-  room k h = (unrefused (full s.control.ring) 7 k (lit< tt) h).1
-
-  known : (i k : ℕ) → refuse (full s.control.ring) 7 (refuse (no_thread s.control.ring i) 2 k) ≡ 0 → (i < s.control.ring.threads) × (k ≡ 0)
-  known i k h = let q = unrefused (no_thread s.control.ring i) 2 k (lit< tt) (room _ h) in (leb-false s.control.ring.threads i q.0, q.1)
-
-  at_rest : (i k : ℕ) → refuse (not (is_idle (thread_at s.control i))) 4 k ≡ 0 → ((thread_at s.control i).place ≡ 0) × (k ≡ 0)
-  at_rest i k h = let q = unrefused (not (is_idle (thread_at s.control i))) 4 k (lit< tt) h in (eqb-true _ 0 (not-false _ q.0), q.1)
-
   busy : (p : ℕ) → (p ≡ 0 → ⊥) → 1 ≤ p
   busy p h = omega arith
 
-  done : (e : Event) → own_refusal s.control e ≡ 0 → P e (does s e)
-  unfolding own_refusal does
-  done (Put i x) h = let q = known i _ h in let r = at_rest i _ q.1 in d.put i x q.0 r.0 (eqb-false x 0 (unrefused (eqb x 0) 6 0 (lit< tt) r.1).0)
-  done (Take i) h = let q = known i _ h in d.take i q.0 (at_rest i _ q.1).0
-  done (Go i) h = let q = known i _ h in d.go i q.0 (busy _ (eqb-false _ 0 (unrefused (is_idle (thread_at s.control i)) 5 0 (lit< tt) q.1).0))
-  done (Back l) h = d.back l (not-false _ (unrefused (not (line_exists s.control.ring.cells s.control.ring.threads l)) 3 0 (lit< tt) (room _ h)).0)
-  done CutEvent h = d.cuts
+  done : (e : Event) → SoundRecord s.control → own_refusal s.control e ≡ 0 → P e (does s e)
+  unfolding does
+  done (Put i x) r h = let q = put_accepted s.control i x r h in d.put i x q.1 (eqb-true _ 0 q.2) q.3
+  done (Take i) r h = let q = take_accepted s.control i r h in d.take i q.1 (eqb-true _ 0 q.2)
+  done (Go i) r h = let q = go_accepted s.control i r h in d.go i q.1 (busy _ (eqb-false _ 0 q.2))
+  done (Back l) r h = d.back l (back_accepted s.control l r h).1
+  done CutEvent r h = d.cuts
 
   pub event_cases : (e : Event) → P e (event s e)
   unfolding event inner accept
   event_cases e = cond_cases (P e) (eqb (unsound s) 0)
-      (λ p. cond_cases (P e) (eqb (own_refusal s.control e) 0) (λ q. done e (eqb-true _ 0 q)) (λ q. d.refuses e _))
+      (λ p. cond_cases (P e) (eqb (own_refusal s.control e) 0) (λ q. done e (sound_of s (eqb-true _ 0 p)).control (eqb-true _ 0 q)) (λ q. d.refuses e _))
       (λ p. d.refuses e _)

@@ -37,7 +37,7 @@ Onward s a τ t r =
 -- a thread that awaits nothing no longer awaits this
 pub no_longer : {A : Type 0} (w v : Line) → is_none w ≡ true → is_none v ≡ false → (w ≡ v) ⊎ A → A
 no_longer w v p q (inr x) = x
-no_longer w v p q (inl e) = absurd (let z : ◌≡◌ {A = ℕ} 0 1 = cc in omega arith)
+no_longer w v p q (inl e) = cc
 
 module _ (s : State) (a : Account) (v : Inv s a) (τ : Tale) (w : Told s a τ) (t : ℕ) (tn : t < threads_of s) where
   abbrev h : Thread

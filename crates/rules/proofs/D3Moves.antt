@@ -230,7 +230,7 @@ module _ (s : State) (a : Account) (v : Inv s a) (τ : Tale) (w : Told s a τ) (
       now = at_here τ.handed x _ ∙ ap (λ l. l ++ h.item ∷ []) none_yet
 
       more : (y i : ℕ) → τ.handed y ≡ i ∷ [] → adds τ.handed x h.item y ≡ i ∷ []
-      more y i q = at_else τ.handed x _ y (λ d. let r : τ.handed y ≡ [] = ap τ.handed d ∙ none_yet in let f : ◌≡◌ {A = ℕ} 0 1 = cc in omega arith) ∙ q
+      more y i q = at_else τ.handed x _ y (λ d. let r : τ.handed y ≡ [] = ap τ.handed d ∙ none_yet in cc) ∙ q
 
       new : ℕ → Thread
       new = thread_at (next s g m t idle).control

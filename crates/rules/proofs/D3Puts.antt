@@ -1,7 +1,7 @@
 -- Each row of a put keeps the invariant.
 use Prim.Native.Nat.{ℕ, ◌+◌, ◌%◌, ◌<◌, ◌≤◌}
 use mathlib.Core.Path.{◌≡◌, refl, sym, ap, ◌∙◌}
-use mathlib.Core.Logic.{◌≢◌, inl}
+use mathlib.Core.Logic.{inl}
 use mathlib.Core.Bool.{◌&&◌}
 use native.Mathlib.Omega.{arith}
 use lib.Dec.{eqb, leb}
@@ -18,7 +18,7 @@ use Rattle.rules.specs.Account.{Account, enters}
 use Rattle.rules.proofs.Tests.{cond_cases, both}
 use Rattle.rules.proofs.Sound.{same_eq}
 use Rattle.rules.proofs.D3Cells.{at_here, at_else, unlanded, land_keeps}
-use Rattle.rules.proofs.D3Threads.{Frame, Nums, ThrOk, away, idle_ok}
+use Rattle.rules.proofs.D3Threads.{Nums, ThrOk, away_ok, idle_ok}
 use Rattle.rules.proofs.D3Inv.{Inv, cells_of, threads_of, top_of, run_cell, frame, tail_frame, next, still, tailed, shutting, stored, celled}
 
 abbrev pub After : State → Account → ℕ → Step → Type 0
@@ -34,19 +34,14 @@ module _ (s : State) (a : Account) (v : Inv s a) (t : ℕ) (tn : t < threads_of 
   mine : Nums (frame s a) t h
   mine = (v.thrs t).nums
 
-  -- a record away from the waits
-  ok : {f : Frame} {y : Thread} → y.place ≢ 6 → y.place ≢ 10 → y.place ≢ 20 → Nums f t y → ThrOk (cells_of s) (threads_of s) f t y
-  ok p q r k = record { known = λ z. tn; nums = k; waits = away p q r }
-
   pub keep_p1 : h.place ≡ 1 → After s a t (row_p1 g t h s.running)
   unfolding row_p1 enters
   keep_p1 e =
       let i = mine.item (omega arith) (omega arith) in
-      let b = v.tail in
       tailed s a v t tn _ _ (omega arith)
       (cond_cases (λ p. ThrOk (cells_of s) (threads_of s) (tail_frame s a (tail_at (cells_of s) (threads_of s) s.running + 1)) t (drawing h (tail_at (cells_of s) (threads_of s) s.running) p)) (eqb (closed_at (cells_of s) (threads_of s) s.running) 1)
-      (λ q. let z = eqb-true (closed_at (cells_of s) (threads_of s) s.running) 1 q in ok (omega arith) (omega arith) (omega arith) (omega arith))
-      (λ q. ok (omega arith) (omega arith) (omega arith) (omega arith)))
+      (λ q. let z = eqb-true (closed_at (cells_of s) (threads_of s) s.running) 1 q in away_ok tn (omega arith) (omega arith) (omega arith) (omega arith))
+      (λ q. away_ok tn (omega arith) (omega arith) (omega arith) (omega arith)))
 
   pub keep_p2 : h.place ≡ 2 → After s a t (row_p2 g t h s.running)
   unfolding row_p2 enters
@@ -59,8 +54,8 @@ module _ (s : State) (a : Account) (v : Inv s a) (t : ℕ) (tn : t < threads_of 
       let y = eqb-true c.item 0 q.0 in
       let z = leb-true c.index h.number q.1 in
       cond_cases (λ p. ThrOk (cells_of s) (threads_of s) (frame s a) t (looking h c p)) (eqb c.safe 1)
-      (λ r. ok (omega arith) (omega arith) (omega arith) (omega arith)) (λ r. ok (omega arith) (omega arith) (omega arith) (omega arith)))
-      (λ p. ok (omega arith) (omega arith) (omega arith) (omega arith)))
+      (λ r. away_ok tn (omega arith) (omega arith) (omega arith) (omega arith)) (λ r. away_ok tn (omega arith) (omega arith) (omega arith) (omega arith)))
+      (λ p. away_ok tn (omega arith) (omega arith) (omega arith) (omega arith)))
 
   pub keep_p3 : h.place ≡ 3 → After s a t (row_p3 g t h s.running)
   unfolding row_p3 enters
@@ -69,7 +64,7 @@ module _ (s : State) (a : Account) (v : Inv s a) (t : ℕ) (tn : t < threads_of 
       let b = mine.put (omega arith) (omega arith) in
       let k = mine.p4 (omega arith) (omega arith) in
       still s a v t tn _ (cond_cases (λ p. ThrOk (cells_of s) (threads_of s) (frame s a) t (to h p)) (leb (top_of s) h.number)
-      (λ p. ok (omega arith) (omega arith) (omega arith) (omega arith)) (λ p. ok (omega arith) (omega arith) (omega arith) (omega arith)))
+      (λ p. away_ok tn (omega arith) (omega arith) (omega arith) (omega arith)) (λ p. away_ok tn (omega arith) (omega arith) (omega arith) (omega arith)))
 
   pub keep_p4 : h.place ≡ 4 → After s a t (row_p4 g t h s.running)
   unfolding row_p4 enters
@@ -88,8 +83,8 @@ module _ (s : State) (a : Account) (v : Inv s a) (t : ℕ) (tn : t < threads_of 
       refl (λ o. refl) (λ o. refl)
       (λ y w. at_else a.landed x h.item y (λ d. w (ap a.landed d ∙ un)))
       (λ y w. at_else a.durable x 0 y (λ d. w (sym (v.cells.sub y w) ∙ ap a.landed d ∙ un)))
-      (ok (omega arith) (omega arith) (omega arith) (omega arith)))
-      (λ p. still s a v t tn _ (ok (omega arith) (omega arith) (omega arith) (omega arith)))
+      (away_ok tn (omega arith) (omega arith) (omega arith) (omega arith)))
+      (λ p. still s a v t tn _ (away_ok tn (omega arith) (omega arith) (omega arith) (omega arith)))
 
   pub keep_p5 : h.place ≡ 5 → After s a t (row_p5 g t h s.running)
   unfolding row_p5 enters
@@ -119,11 +114,11 @@ module _ (s : State) (a : Account) (v : Inv s a) (t : ℕ) (tn : t < threads_of 
       let i = mine.item (omega arith) (omega arith) in
       let b = mine.put (omega arith) (omega arith) in
       still s a v t tn _ (cond_cases (ThrOk (cells_of s) (threads_of s) (frame s a) t) (gives_up g h)
-      (λ p. ok (omega arith) (omega arith) (omega arith) (omega arith)) (λ p. ok (omega arith) (omega arith) (omega arith) (omega arith)))
+      (λ p. away_ok tn (omega arith) (omega arith) (omega arith) (omega arith)) (λ p. away_ok tn (omega arith) (omega arith) (omega arith) (omega arith)))
 
   pub keep_p9 : h.place ≡ 9 → After s a t (row_p9 g t h s.running)
   unfolding row_p9 enters
   keep_p9 e =
       let i = mine.item (omega arith) (omega arith) in
       let b = mine.put (omega arith) (omega arith) in
-      shutting s a v t tn _ (ok (omega arith) (omega arith) (omega arith) (omega arith))
+      shutting s a v t tn _ (away_ok tn (omega arith) (omega arith) (omega arith) (omega arith))

@@ -17,7 +17,7 @@ use Rattle.rules.specs.Cut.{pass_mark, queued, tail_to, head_to, tail_of, head_o
 use Rattle.rules.specs.State.{State}
 use Rattle.rules.specs.Account.{Account, mark_of, listed, queue_by, first_of, past_of}
 use Rattle.rules.proofs.Tests.{cond_cases, both}
-use Rattle.rules.proofs.Recovered.{queued_is, tail_from, tail_over, head_under, head_low, head_from}
+use Rattle.rules.proofs.Recovered.{queued_is, tail_from, tail_over, head_low, mark_to_head, head_to_tail}
 use Rattle.rules.proofs.Joined.{join_none, join_same}
 use Rattle.rules.proofs.Queue.{queue_length}
 use Rattle.rules.proofs.D3Walk.{join_only, join_two}
@@ -167,15 +167,12 @@ module _ (s : State) (a : Account) (v : Inv s a) where
       up : pm ≤ tl
       up = tail_from R pm s.kept R
 
-      hd_tl : hd ≤ tl
-      hd_tl = head_under R pm s.kept tl R
-
       pm_hd : pm ≤ hd
-      pm_hd = head_from R pm s.kept tl R up
+      pm_hd = mark_to_head R pm s.kept
 
       none : ¬ (pm < tl) → (first_of pm (join_from (listed a) pm (a.bound - pm)) ≡ hd) × (past_of pm (join_from (listed a) pm (a.bound - pm)) ≡ tl)
       none l = let e = join_none (listed a) pm (a.bound - pm) (λ x p q. listed_none a x (gone_of x (λ z. omega (arith, below_tail x p z)))) in
-          (rw e (omega (arith, hd_tl, pm_hd)), rw e (omega (arith, up)))
+          (rw e (omega (arith, head_to_tail R pm s.kept, pm_hd)), rw e (omega (arith, up)))
 
       some : pm < tl → (first_of pm (join_from (listed a) pm (a.bound - pm)) ≡ hd) × (past_of pm (join_from (listed a) pm (a.bound - pm)) ≡ tl)
       some l =

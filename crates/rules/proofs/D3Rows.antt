@@ -16,7 +16,7 @@ use Rattle.rules.specs.Account.{Account, at, enters, passes}
 use Rattle.rules.proofs.Tests.{cond_cases}
 use Rattle.rules.proofs.Sound.{same_eq}
 use Rattle.rules.proofs.D3Cells.{at_here, pass_keeps, flag_keeps}
-use Rattle.rules.proofs.D3Threads.{Frame, Nums, ThrOk, away}
+use Rattle.rules.proofs.D3Threads.{Nums, ThrOk, away_ok}
 use Rattle.rules.proofs.D3Inv.{Inv, cells_of, threads_of, top_of, run_cell, frame, next, still, drawing_head, tailed, stored, celled, copying}
 use Rattle.rules.proofs.D3Dispatch.{row_cases}
 use Rattle.rules.proofs.D3Puts.{After, keep_wait, keep_p1, keep_p2, keep_p3, keep_p4, keep_p5, keep_p7, keep_p8, keep_p9}
@@ -31,17 +31,11 @@ module _ (s : State) (a : Account) (v : Inv s a) (t : ℕ) (tn : t < threads_of 
   mine : Nums (frame s a) t h
   mine = (v.thrs t).nums
 
-  -- a record away from the waits
-  ok : {f : Frame} {y : Thread} → y.place ≢ 6 → y.place ≢ 10 → y.place ≢ 20 → Nums f t y → ThrOk (cells_of s) (threads_of s) f t y
-  ok p q r k = record { known = λ z. tn; nums = k; waits = away p q r }
-
   keep_t1 : h.place ≡ 11 → After s a t (row_t1 g t h s.running)
   unfolding row_t1 enters
   keep_t1 e =
       let k = mine.bare (omega arith) (omega arith) in
-      let u = v.copies.under t tn in
-      let b = v.head in
-      drawing_head s a v t tn _ (ok (omega arith) (omega arith) (omega arith) (omega arith))
+      drawing_head s a v t tn _ (away_ok tn (omega arith) (omega arith) (omega arith) (omega arith))
 
   keep_t2 : h.place ≡ 12 → After s a t (row_t2 g t h s.running)
   unfolding row_t2 enters
@@ -52,14 +46,14 @@ module _ (s : State) (a : Account) (v : Inv s a) (t : ℕ) (tn : t < threads_of 
       let b = mine.take (omega arith) in
       let o = mine.own (omega arith) (omega arith) in
       still s a v t tn _ (cond_cases (λ p. ThrOk (cells_of s) (threads_of s) (frame s a) t (looking h c p)) (ltb x c.index)
-      (λ p. ok (omega arith) (omega arith) (omega arith) (omega arith))
+      (λ p. away_ok tn (omega arith) (omega arith) (omega arith) (omega arith))
       (λ p. let z = ltb-false x c.index p in
       cond_cases (λ p. ThrOk (cells_of s) (threads_of s) (frame s a) t (looking h c p)) (eqb c.item 0)
-      (λ q. let y = eqb-true c.item 0 q in ok (omega arith) (omega arith) (omega arith) (omega arith))
+      (λ q. let y = eqb-true c.item 0 q in away_ok tn (omega arith) (omega arith) (omega arith) (omega arith))
       (λ q. let y : c.item ≢ 0 = eqb-false c.item 0 q in
       cond_cases (λ p. ThrOk (cells_of s) (threads_of s) (frame s a) t (looking h c p)) (eqb c.index x)
-      (λ r. let w = eqb-true c.index x r in ok (omega arith) (omega arith) (omega arith) (omega arith))
-      (λ r. let w : c.index ≢ x = eqb-false c.index x r in ok (omega arith) (omega arith) (omega arith) (omega arith)))))
+      (λ r. let w = eqb-true c.index x r in away_ok tn (omega arith) (omega arith) (omega arith) (omega arith))
+      (λ r. let w : c.index ≢ x = eqb-false c.index x r in away_ok tn (omega arith) (omega arith) (omega arith) (omega arith)))))
 
   -- a take that missed looks again
   again : 13 ≤ h.place → h.place ≤ 15 → Inv (next s g s.running t (to h 12)) a
@@ -67,7 +61,7 @@ module _ (s : State) (a : Account) (v : Inv s a) (t : ℕ) (tn : t < threads_of 
       let k = mine.bare (omega arith) (omega arith) in
       let b = mine.take (omega arith) in
       let o = mine.own (omega arith) (omega arith) in
-      still s a v t tn _ (ok (omega arith) (omega arith) (omega arith) (omega arith))
+      still s a v t tn _ (away_ok tn (omega arith) (omega arith) (omega arith) (omega arith))
 
   -- T3 and T5: the cell is passed
   passing : (y : Thread) (mk : ℕ) → mk ≡ h.number + 1 → (run_cell s (h.number % cells_of s)).index ≤ h.number → a.head ≤ h.number → h.number < top_of s
@@ -90,7 +84,7 @@ module _ (s : State) (a : Account) (v : Inv s a) (t : ℕ) (tn : t < threads_of 
       let ix : (run_cell s (x % cells_of s)).index ≡ x = rw q k.1 in
       let it : (run_cell s (x % cells_of s)).item ≢ 0 = rw q k.0 in
       let was : a.landed x ≡ (run_cell s (x % cells_of s)).item = ap a.landed (sym ix) ∙ v.cells.run_in (x % cells_of s) (mod-lt x v.pos) it in
-      passing _ _ refl (omega arith) b.0 b.1 (ok (omega arith) (omega arith) (omega arith) (omega arith)))
+      passing _ _ refl (omega arith) b.0 b.1 (away_ok tn (omega arith) (omega arith) (omega arith) (omega arith)))
       (λ p. again (omega arith) (omega arith))
 
   keep_t4 : h.place ≡ 14 → After s a t (row_t4 g t h s.running)
@@ -102,7 +96,7 @@ module _ (s : State) (a : Account) (v : Inv s a) (t : ℕ) (tn : t < threads_of 
       let o = mine.own (omega arith) (omega arith) in
       cond_cases (After s a t) (same (run_cell s (x % cells_of s)) h.looked)
       (λ p. celled s a v t tn x _ _ _ (flag_keeps _ _ _ _ _ v.cells v.pos _ (x % cells_of s) _ (mod-lt x v.pos) (stored s a v t tn x _))
-      refl (λ o. refl) (λ o. refl) (λ o w. refl) (λ o w. refl) (ok (omega arith) (omega arith) (omega arith) (omega arith)))
+      refl (λ o. refl) (λ o. refl) (λ o w. refl) (λ o w. refl) (away_ok tn (omega arith) (omega arith) (omega arith) (omega arith)))
       (λ p. again (omega arith) (omega arith))
 
   keep_t5 : h.place ≡ 15 → After s a t (row_t5 g t h s.running)
@@ -115,7 +109,7 @@ module _ (s : State) (a : Account) (v : Inv s a) (t : ℕ) (tn : t < threads_of 
       let k = mine.t5 e in
       cond_cases (After s a t) (same (run_cell s (x % cells_of s)) h.looked)
       (λ p. let q = same_eq (run_cell s (x % cells_of s)) h.looked p in
-      passing _ _ refl (rw q k.1) b.0 b.1 (ok (omega arith) (omega arith) (omega arith) (omega arith)))
+      passing _ _ refl (rw q k.1) b.0 b.1 (away_ok tn (omega arith) (omega arith) (omega arith) (omega arith)))
       (λ p. again (omega arith) (omega arith))
 
   keep_t6 : h.place ≡ 16 → After s a t (row_t6 g t h s.running)
@@ -125,7 +119,7 @@ module _ (s : State) (a : Account) (v : Inv s a) (t : ℕ) (tn : t < threads_of 
       let k = mine.bare (omega arith) (omega arith) in
       let o = mine.own (omega arith) (omega arith) in
       still s a v t tn _ (cond_cases (λ p. ThrOk (cells_of s) (threads_of s) (frame s a) t (to h p)) (leb (tail_at (cells_of s) (threads_of s) s.running) (h.number + 1))
-      (λ p. ok (omega arith) (omega arith) (omega arith) (omega arith)) (λ p. ok (omega arith) (omega arith) (omega arith) (omega arith)))
+      (λ p. away_ok tn (omega arith) (omega arith) (omega arith) (omega arith)) (λ p. away_ok tn (omega arith) (omega arith) (omega arith) (omega arith)))
 
   keep_t7 : h.place ≡ 17 → After s a t (row_t7 g t h s.running)
   unfolding row_t7 enters
@@ -133,7 +127,7 @@ module _ (s : State) (a : Account) (v : Inv s a) (t : ℕ) (tn : t < threads_of 
       let b = mine.take (omega arith) in
       let k = mine.bare (omega arith) (omega arith) in
       let o = mine.own (omega arith) (omega arith) in
-      tailed s a v t tn _ _ (omega arith) (ok (omega arith) (omega arith) (omega arith) (omega arith))
+      tailed s a v t tn _ _ (omega arith) (away_ok tn (omega arith) (omega arith) (omega arith) (omega arith))
 
   keep_t8 : h.place ≡ 18 → After s a t (row_t8 g t h s.running)
   unfolding row_t8 enters
@@ -142,7 +136,7 @@ module _ (s : State) (a : Account) (v : Inv s a) (t : ℕ) (tn : t < threads_of 
       let o = mine.own (omega arith) (omega arith) in
       let k = mine.carry (omega arith) in
       let z : at a.copied t (max (a.copied t) (h.number + 1)) t ≡ h.number + 1 = at_here a.copied t _ ∙ omega arith in
-      copying s a v t tn h.number _ b.0 b.1 o (ok (omega arith) (omega arith) (omega arith)
+      copying s a v t tn h.number _ b.0 b.1 o (away_ok tn (omega arith) (omega arith) (omega arith)
       (record {
         place = omega arith;
         put = omega arith;

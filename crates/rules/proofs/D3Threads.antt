@@ -52,6 +52,9 @@ pub record ThrOk (R n : ℕ) (f : Frame) (i : ℕ) (h : Thread) : Type 0 where
 pub away : {R : ℕ} {f : Frame} {i : ℕ} {h : Thread} → h.place ≢ 6 → h.place ≢ 10 → h.place ≢ 20 → Waits R f i h
 away a b c = record { p6 = λ e. absurd (a e); p10 = λ e. absurd (b e); t10 = λ e. absurd (c e) }
 
+pub away_ok : {R n : ℕ} {f : Frame} {i : ℕ} {h : Thread} → i < n → h.place ≢ 6 → h.place ≢ 10 → h.place ≢ 20 → Nums f i h → ThrOk R n f i h
+away_ok l a b c k = record { known = λ z. l; nums = k; waits = away a b c }
+
 pub idle_ok : (R n : ℕ) (f : Frame) (i : ℕ) → ThrOk R n f i idle
 idle_ok R n f i = record { known = omega arith; nums = omega arith; waits = away (omega arith) (omega arith) (omega arith) }
 

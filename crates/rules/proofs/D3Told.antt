@@ -90,8 +90,8 @@ pub record Told (s : State) (a : Account) (τ : Tale) : Type 0 where
   pub lands : (x : ℕ) → a.landed x ≢ 0 → In (a.landed x) (τ.landings x)
   pub closed : τ.closed ≡ true → closed_at (cells_of s) (threads_of s) s.kept ≡ 1
 
-no_item : {l : List ℕ} {i : ℕ} → l ≡ [] → l ≡ i ∷ [] → ⊥
-no_item p q = let z : ◌≡◌ {A = ℕ} 0 1 = cc in omega arith
+pub no_item : {l : List ℕ} {i : ℕ} → l ≡ [] → l ≡ i ∷ [] → ⊥
+no_item p q = cc
 
 module _ (s : State) (a : Account) (v : Inv s a) (τ : Tale) (w : Told s a τ) (t : ℕ) (tn : t < threads_of s) where
   takes_below : (j x : ℕ) → Within 12 20 (thread_at s.control j) x → x < top_of s

@@ -22,7 +22,8 @@ use Rattle.rules.proofs.Tests.{cond_cases}
 use Rattle.rules.proofs.Recovered.{max-over, max_under}
 use Rattle.rules.proofs.D3Cells.{at_here, at_else}
 use Rattle.rules.proofs.D3Inv.{Inv, cells_of, threads_of, top_of, run_cell}
-use Rattle.rules.proofs.D3Back.{written_closed, released_at}
+use Rattle.rules.proofs.Keep.{released_in}
+use Rattle.rules.proofs.D3Back.{written_closed}
 use Rattle.rules.proofs.D3Drawn.{Taken, InCell, OutOf, Drawn}
 use Rattle.rules.proofs.D3Told.{Within, Says, HandsAt, ConfsAt, Told}
 use Rattle.rules.proofs.D3Steps.{plain}
@@ -108,7 +109,7 @@ tell_back s a v τ w l x =
     th' = λ i. get_or (map (released l) s.control.thread) i idle
 
     same : (i : ℕ) → th' i ≡ released l (thread_at s.control i)
-    same i = released_at l s.control.thread i
+    same i = released_in l s.control.thread i
 
     free_says : (i : ℕ) → Says τ i (thread_at s.control i) → Says τ i (released l (thread_at s.control i))
     free_says i k = unfold released in record { puts = k.puts; takes = k.takes; none_held = k.none_held; held = k.held }

@@ -20,19 +20,20 @@ use Rattle.rules.specs.Events.{step_thread, cut, event, fresh_state, after, answ
 use Rattle.rules.specs.Account.{Account, opened, listed, enters, account}
 use Rattle.rules.specs.Tale.{In, Tale, untold, tells, tale, Gone}
 use Rattle.rules.specs.Demand3.{Unqueued, ExactlyOne, first, second, third, AtCut, Demand3Holds}
-use Rattle.rules.proofs.Tests.{getD-all}
+use Rattle.rules.proofs.Tests.{get_or-all}
 use Rattle.rules.proofs.Joined.{join_from_lem, in_join}
 use Rattle.rules.proofs.D3Dispatch.{event_cases}
 use Rattle.rules.proofs.D3Inv.{Inv, cells_of, threads_of}
 use Rattle.rules.proofs.D3Cut.{mark_is, rest_is, rest}
 use Rattle.rules.proofs.D3Queue.{listed_none, listed_one, queues_agree, unwalked, in_walk, above_head}
 use Rattle.rules.proofs.D3Agree.{Reached, reach, cut-finds, cut-agrees, fresh_reached}
-use Rattle.rules.proofs.D3Told.{Within, Told}
+use Rattle.rules.proofs.D3Told.{no_item, Within, Told}
 use Rattle.rules.proofs.D3Moves.{tell_row}
 use Rattle.rules.proofs.D3Written.{tell_put, tell_take, tell_back}
-use Rattle.rules.proofs.D3Heard.{heard, Fits, fits}
+use Rattle.rules.proofs.D3Heard.{heard, answered, Fits, fits}
 use Rattle.rules.proofs.D3Within.{within}
-use Rattle.rules.proofs.D3CutOff.{pm_hd, tell_cut}
+use Rattle.rules.proofs.D3CutOff.{tell_cut}
+use Rattle.rules.proofs.Recovered.{mark_to_head}
 
 -- an entry of a walk stands at its number, and each number's entry is in the walk
 module _ (a : Account) (lo k : ℕ) where
@@ -75,18 +76,18 @@ fresh_told : (R n S : ℕ) (r k : List ℕ) → Told (fresh_state R n S r k) ope
 unfolding fresh_state opened untold thread_at
 fresh_told R n S r k = record {
   drawn = record { seen = λ t p q. absurd (rest t 3 4 _ (omega arith) (record { from = p; upto = q; is = refl })); here = λ x z. absurd (z refl); drawn = λ x lo hi. absurd (omega arith) };
-  says = λ i. rw (getD-all 8 i idle) (record { puts = λ p q. refl; takes = λ p. absurd (omega arith); none_held = λ p. refl; held = λ p. absurd (omega arith) });
+  says = λ i. rw (get_or-all 8 i idle) (record { puts = λ p q. refl; takes = λ p. absurd (omega arith); none_held = λ p. refl; held = λ p. absurd (omega arith) });
   takes = λ i j x p q. absurd (rest i 12 20 x (omega arith) p);
   puts = λ i j x p q. absurd (rest i 2 10 x (omega arith) p);
   hands = λ x. inl refl;
   confs = λ x. inl refl;
   gones = λ x g. absurd (Memᴰ.not-nil g.1);
   lands = λ x z. absurd (z refl);
-  closed = λ q. absurd (let f : ◌≡◌ {A = ℕ} 0 1 = cc in omega arith);
+  closed = λ q. cc;
 }
   where
     rest : (i lo hi x : ℕ) → 1 ≤ lo → Within lo hi (thread_at (fresh_state R n S r k).control i) x → ⊥
-    rest i lo hi x l = rw (getD-all 8 i idle) (λ c. omega arith)
+    rest i lo hi x l = rw (get_or-all 8 i idle) (λ c. omega arith)
 
 -- at most one in a list
 one_or_none : {A : ℕ → Type 0} (l : List ℕ) → (l ≡ []) ⊎ ((i : ℕ) × (l ≡ i ∷ []) × A i) → length l ≤ 1
@@ -97,9 +98,6 @@ one_or_none l (inr (i, e, f)) = rw e (omega arith)
 all_from : {A : ℕ → Type 0} {l m : List ℕ} → (l ≡ []) ⊎ ((i : ℕ) × (l ≡ i ∷ []) × A i) → ((i : ℕ) → A i → In i m) → (i : ℕ) → In i l → In i m
 all_from (inl q) f i k = absurd (Memᴰ.not-nil (rw q at k))
 all_from (inr (j, q, y)) f i k = Memᴰ.cast (Memᴰ.eq_of_singleton (rw q at k)) (f j y)
-
-none_is_not : {l : List ℕ} {i : ℕ} → l ≡ [] → l ≡ i ∷ [] → ⊥
-none_is_not p q = let z : ◌≡◌ {A = ℕ} 0 1 = cc in omega arith
 
 module _ (s : State) (a : Account) (v : Inv s a) (τ : Tale) (w : Told s a τ) where
   abbrev f : Found
@@ -121,7 +119,7 @@ module _ (s : State) (a : Account) (v : Inv s a) (τ : Tale) (w : Told s a τ) w
   in_queue : (x : ℕ) → f.head ≤ x → a.durable x ≢ 0 → In (entry x (a.durable x)) (queue_of (cells_of s) (threads_of s) s.kept)
   unfolding finds
   in_queue x l z =
-      let p : pass_mark (cells_of s) (threads_of s) s.kept ≤ x = omega (arith, pm_hd s a v τ w) in
+      let p : pass_mark (cells_of s) (threads_of s) s.kept ≤ x = omega (arith, mark_to_head (cells_of s) (pass_mark (cells_of s) (threads_of s) s.kept) s.kept) in
       rw (queues_agree s a v, unwalked s a v) (stands_in a _ _ x p (in_walk s a v x p z) z)
 
   gone_is : (x : ℕ) → Gone (threads_of s) h'.cuts x → (x < f.head) × (τ.handed x ≡ [])
@@ -131,7 +129,7 @@ module _ (s : State) (a : Account) (v : Inv s a) (τ : Tale) (w : Told s a τ) w
   -- what was handed out lies below Head
   unhanded : (x : ℕ) → f.head ≤ x → τ.handed x ≡ []
   unfolding finds
-  unhanded x l = elim (w.hands x) [ inl q ↦ q | inr q ↦ absurd (omega (arith, q.2.under, mark_is s a v, pm_hd s a v τ w)) ]
+  unhanded x l = elim (w.hands x) [ inl q ↦ q | inr q ↦ absurd (omega (arith, q.2.under, mark_is s a v, mark_to_head (cells_of s) (pass_mark (cells_of s) (threads_of s) s.kept) s.kept)) ]
 
   -- what a cut decides of a confirmed put
   abbrev Decided : ℕ → ℕ → Type 0
@@ -159,7 +157,7 @@ module _ (s : State) (a : Account) (v : Inv s a) (τ : Tale) (w : Told s a τ) w
       one : (i : ℕ) → i ≢ 0 → Decided x i → Dec (f.head ≤ x) → Fate x i
       one i z d (yes l) = let k = d.0 l in second (unhanded x l) (rw k at (in_queue x l (λ e. z (sym k ∙ e)))) (λ g. omega (arith, gone_is x g))
       one i z d (no l) = elim (d.1 (omega arith)) [
-        | inl e ↦ first e (unqueued (omega arith)) (λ g. none_is_not (gone_is x g).1 e)
+        | inl e ↦ first e (unqueued (omega arith)) (λ g. no_item (gone_is x g).1 e)
         | inr g ↦ third (gone_is x g).1 (unqueued (omega arith)) g
       ]
 
@@ -190,10 +188,12 @@ demand_3 R n S r k h es = record {
   within = within R n S r k h es;
   cut = λ f e. whole R n _ _ _ ran f e;
   heard = heard (fresh_state R n S r k) untold es;
+  answered = answered (fresh_state R n S r k) es;
   one_ok = λ x. one_or_none _ (ran.told.confs x);
   landed_new = λ e b j i q. rw q at (next_fits R n _ _ _ ran e);
   one_item = λ x. one_or_none _ (ran.told.hands x);
   item_landed = λ x. all_from (ran.told.hands x) (λ i y. y.from);
+  item_not_lost = λ e b i q. rw q at (next_fits R n _ _ _ ran e);
   ok_landed = λ x. all_from (ran.told.confs x) (λ i y. y.from);
   ok_durable = λ e b i q. rw q at (next_fits R n _ _ _ ran e);
 }

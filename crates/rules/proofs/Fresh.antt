@@ -13,8 +13,8 @@ use Rattle.rules.specs.Record.{cell, idle, thread_at}
 use Rattle.rules.specs.Memory.{cell_at, copy_at, closed_at, set_closed, tail_at, size, cells_to, copies_to, fresh_image}
 use Rattle.rules.specs.Refusals.{short, setup_refusal, unsound}
 use Rattle.rules.specs.Events.{fresh_state, setup}
-use Rattle.rules.specs.Facts.{SoundImage}
-use Rattle.rules.proofs.Tests.{unrefused, getD-all}
+use Rattle.rules.specs.Facts.{InRange, SoundImage}
+use Rattle.rules.proofs.Tests.{unrefused, get_or-all}
 use Rattle.rules.proofs.Memory.{length-set_closed, length-cells_to, length-copies_to, cell_closed, cell_tail, cells_at, copies_cell, copies_at, copy_closed, copy_tail, closed_same, closed_tail, tail_same}
 use Rattle.rules.proofs.Sound.{range_of, of_sound}
 use Rattle.rules.proofs.Past.{past_fresh}
@@ -59,18 +59,25 @@ module _ (R n : ℕ) (m : List ℕ) (long : size R n ≤ length m) where
     tail = omega (arith, fresh_tail);
   }
 
-pub setup_sound : (R n S : ℕ) (running kept : List ℕ) → setup_refusal R n S running kept ≡ 0 → unsound (setup R n S running kept) ≡ 0
-unfolding setup setup_refusal fresh_state thread_at
-setup_sound R n S running kept h =
+-- what an accepted setup was not refused for
+pub setup_of : (R n S : ℕ) (running kept : List ℕ) → setup_refusal R n S running kept ≡ 0 → InRange R n S × (size R n ≤ length running) × (size R n ≤ length kept)
+unfolding setup_refusal
+setup_of R n S running kept h =
     let a = unrefused (not (in_range R n S)) 1 _ (lit< tt) h in
     let b = unrefused (short R n running) 10 _ (lit< tt) a.1 in
     let d = unrefused (short R n kept) 10 0 (lit< tt) b.1 in
-    let p = ltb-false _ _ b.0 in
-    let q = ltb-false _ _ d.0 in
+    (range_of R n S (not-false _ a.0), ltb-false _ _ b.0, ltb-false _ _ d.0)
+
+pub setup_sound : (R n S : ℕ) (running kept : List ℕ) → setup_refusal R n S running kept ≡ 0 → unsound (setup R n S running kept) ≡ 0
+unfolding setup fresh_state thread_at
+setup_sound R n S running kept h =
+    let a = setup_of R n S running kept h in
+    let p = a.1 in
+    let q = a.2 in
     rw (eq-eqb (setup_refusal R n S running kept) 0 h)
     (of_sound (fresh_state R n S running kept)
     (record {
-      control = record { ring = record { range = range_of R n S (not-false _ a.0); events = omega arith; head = omega arith }; threads = λ i l. inl (getD-all 8 i idle) };
+      control = record { ring = record { range = a.0; events = omega arith; head = omega arith }; threads = λ i l. inl (get_or-all 8 i idle) };
       long_running = rw (past_fresh R n running).long p;
       long_kept = rw (past_fresh R n kept).long q;
       running = fresh_sound R n running p;

@@ -47,7 +47,7 @@ module _ {A : Type 0} (f : ℕ → List A) where
   join_from_lem {x} lo (suc k) h = by (λ m. join_from_lem (suc lo) k m) (Memᴰ.append_cases (f lo) h)
     where
       later : (i : ℕ) × (suc lo ≤ i) × (i < suc lo + k) × Memᴰ x (f i) → (i : ℕ) × (lo ≤ i) × (i < lo + suc k) × Memᴰ x (f i)
-      later p = let a = p.1 in let b = p.2 in (p.0, omega arith, omega arith, p.3)
+      later p = (p.0, omega arith, omega arith, p.3)
 
       by : (Memᴰ x (join_from f (suc lo) k) → (i : ℕ) × (suc lo ≤ i) × (i < suc lo + k) × Memᴰ x (f i))
           → Memᴰ x (f lo) ⊎ Memᴰ x (join_from f (suc lo) k) → (i : ℕ) × (lo ≤ i) × (i < lo + suc k) × Memᴰ x (f i)

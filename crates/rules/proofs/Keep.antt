@@ -1,9 +1,9 @@
--- An accepted event keeps record and images sound, and adds exactly 1 to the event count; a refused one changes nothing.
+-- An accepted event keeps record and images sound.
 use Prim.Native.Nat.{ℕ, ◌+◌, ◌≤◌, ◌<◌}
-use mathlib.Core.Path.{◌≡◌, refl, sym, ap, ◌∙◌}
+use mathlib.Core.Path.{◌≡◌, refl, ap, ◌∙◌}
 use mathlib.Core.Logic.{◌≢◌, inl, inr}
 use mathlib.Core.Bool.{true, false, ◌||◌}
-use mathlib.Core.List.{map}
+use mathlib.Core.List.{List, map}
 use native.Mathlib.Omega.{arith}
 use lib.Dec.{eqb}
 use lib.ListN.{length, get_or, get_or-map}
@@ -24,7 +24,7 @@ use Rattle.rules.specs.State.{State, state, Out, accept}
 use Rattle.rules.specs.Refusals.{is_idle, own_refusal}
 use Rattle.rules.specs.Events.{counts, begins, begin_put, begin_take, step_thread, write_back, cut, does, inner}
 use Rattle.rules.specs.Facts.{Busy, SoundThread, SoundImage, SoundRecord, Sound}
-use Rattle.rules.proofs.Tests.{cond_cases, set_cases, getD-all}
+use Rattle.rules.proofs.Tests.{cond_cases, set_cases, get_or-all}
 use Rattle.rules.proofs.Memory.{length-set_cell, length-set_copy, length-set_closed, length-set_tail, length-over_to, over_at, agree_cell, agree_copy, agree_closed, agree_tail}
 use Rattle.rules.proofs.Accepted.{put_accepted, take_accepted, go_accepted, back_accepted, cut_accepted}
 use Rattle.rules.proofs.Recovered.{length_recovered, sound_recovered, head_bound}
@@ -44,9 +44,12 @@ released-idle : (l : Line) → released l idle ≡ idle
 unfolding released ends
 released-idle l = refl
 
+pub released_in : (l : Line) (ts : List Thread) (i : ℕ) → get_or (map (released l) ts) i idle ≡ released l (get_or ts i idle)
+released_in l ts i = rw (released-idle l) at (get_or-map (released l) ts i idle)
+
 pub released_at : (l : Line) (c : Control) (i : ℕ) → get_or (map (released l) c.thread) i idle ≡ released l (thread_at c i)
 unfolding thread_at
-released_at l c i = ap (λ d. get_or (map (released l) c.thread) i d) (sym (released-idle l)) ∙ get_or-map (released l) c.thread i idle
+released_at l c i = released_in l c.thread i
 
 wait : {R n S e i : ℕ} (l : Line) (t : Thread) → Busy R n S e i t → Busy R n S e i (released l t)
 unfolding released
@@ -165,7 +168,7 @@ module _ (s : State) (h : Sound s) where
       record {
         control = record {
           ring = record { range = h.control.ring.range; events = omega arith; head = omega (arith, head_bound R n e s.kept h.kept) };
-          threads = λ j w. inl (getD-all 8 j idle);
+          threads = λ j w. inl (get_or-all 8 j idle);
         };
         long_running = rw (length-over_to k s.running (size R n)) h.long_running;
         long_kept = rw q h.long_kept;

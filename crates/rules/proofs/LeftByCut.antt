@@ -12,7 +12,7 @@ use Rattle.rules.specs.Cut.{pass_mark, head_of, finds, recovered}
 use Rattle.rules.specs.State.{State, Out}
 use Rattle.rules.specs.Refusals.{refusal}
 use Rattle.rules.specs.Events.{cut, does, event}
-use Rattle.rules.proofs.Tests.{getD-all}
+use Rattle.rules.proofs.Tests.{get_or-all}
 use Rattle.rules.proofs.Memory.{over_at}
 use Rattle.rules.proofs.Sound.{sound_of}
 use Rattle.rules.proofs.Recovered.{cell_recovered, copy_recovered, closed_recovered, tail_recovered}
@@ -55,7 +55,7 @@ cut-leaves s h =
     (record {
       answer = refl;
       ring = refl;
-      threads = λ i. getD-all 8 i idle;
+      threads = λ i. get_or-all 8 i idle;
       both = λ i l. over_at (recovered R n m) s.running (size R n) i k.long_running l;
       copies = copy_recovered R n m long;
       closed = closed_recovered R n m long;

@@ -3,6 +3,7 @@ pub mod Cases
 pub mod CasesRows
 pub mod CasesRefusals
 pub mod CasesStates
+pub mod Compared
 pub mod Memory
 pub mod Tests
 pub mod Sound
@@ -28,7 +29,7 @@ pub mod Listed
 pub mod Reader
 pub mod OneToOne
 pub mod Unique
-pub mod PlaceNames
+pub mod Named
 pub mod D3Cells
 pub mod D3Threads
 pub mod D3Inv

@@ -12,10 +12,10 @@ use lib.ListN.{length, length-append, length-map}
 use borrow.Author.Tests.{eqb-true, eq-eqb, ne_eqb}
 use Rattle.rules.specs.Upto.{count_to, join_from}
 use Rattle.rules.specs.Memory.{cell_at}
-use Rattle.rules.specs.Cut.{pass_mark, queued, tail_to, head_to, tail_of, head_of, count_of, finds, Entry, entry, entry_if, entries_at, queue_of}
+use Rattle.rules.specs.Cut.{pass_mark, queued, head_to, tail_of, head_of, count_of, finds, Entry, entry, entry_if, entries_at, queue_of}
 use Rattle.rules.specs.Listing.{items}
 use Rattle.rules.proofs.Tests.{cond_cases, both}
-use Rattle.rules.proofs.Recovered.{queued_is, is_queued, tail_from, tail_over, tail_under, head_under, head_low, head_from}
+use Rattle.rules.proofs.Recovered.{queued_is, is_queued, tail_over, tail_under, head_low, mark_to_head, head_to_tail}
 use Rattle.rules.proofs.Joined.{count_most, join_same, join_none, join_split, join_from_lem, in_join, map-join}
 use Rattle.rules.proofs.Rising.{Rising, none, next, rising_one, rising_join, rising_last, rising_map}
 
@@ -64,7 +64,6 @@ module _ (R mark : ℕ) (m : List ℕ) where
   at_cell x i h =
       let z = join_from_lem (cell_if R mark m x) 0 R h in
       let y = if_cell x z.0 i z.3 in
-      let l = z.2 in
       rw y.0 (omega arith, y.1, y.2)
 
   cell_at_lem : (j : ℕ) → j < R → queued mark (cell_at R m j) ≡ true → Memᴰ j (cells_at R mark m (cell_at R m j).index)
@@ -201,7 +200,7 @@ module _ (R n : ℕ) (m : List ℕ) where
     where
       strict : (a b : ℕ) → ((cell_at R m a).index ≡ (cell_at R m b).index → a ≡ b) → Before R m a b → (cell_at R m a).index < (cell_at R m b).index
       strict a b f (inl l) = l
-      strict a b f (inr p) = let q = f p.0 in let l = p.1 in absurd (omega arith)
+      strict a b f (inr p) = absurd (omega arith)
 
   -- Head is the first number, Tail the last + 1, both the pass mark if nothing is queued
   head_high : (b t k : ℕ) → b ≤ t → ((j : ℕ) → j < k → queued mark (cell_at R m j) ≡ true → b ≤ (cell_at R m j).index) → b ≤ head_to R mark t m k
@@ -254,7 +253,6 @@ module _ (R n : ℕ) (m : List ℕ) where
   unfolding finds head_of tail_of
   none_queued q =
       let d = tail_under R mark m mark (omega arith) (λ j l p. let y = queued_is mark (cell_at R m j) p in absurd (Memᴰ.not-nil (rw q at (queue_all j l y.0 y.1)))) R (omega arith) in
-      let a = tail_from R mark m R in
-      let b = head_under R mark m (tail_to R mark m R) R in
-      let c = head_from R mark m (tail_to R mark m R) R a in
+      let b = head_to_tail R mark m in
+      let c = mark_to_head R mark m in
       (omega arith, omega arith)

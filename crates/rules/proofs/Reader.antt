@@ -31,9 +31,10 @@ cell-numbers R m j h =
     let e3 = drop-cons m (suc (suc (suc k))) 0 (omega arith) in
     rw (p1, p2, p3, e0, e1, e2, e3)
 
-fits : (R j : ℕ) (m : List ℕ) → readable R j m ≡ true → 4 * j + 4 ≤ length m
+-- a readable cell lies within the image
+pub part_fits : (R j : ℕ) (m : List ℕ) → readable R j m ≡ true → 4 * j + 4 ≤ length m
 unfolding readable
-fits R j m h =
+part_fits R j m h =
     let a = (both (leb 1 R) _ h).1 in
     let b = (both (leb R max_cells) _ a).1 in
     let d = both (ltb j R) (leb (4 * R) (length m)) b in
@@ -47,7 +48,7 @@ fits R j m h =
 module _ (isKept : Bool) (R j : ℕ) (running kept : List ℕ) where
   pub part_is_cell : readable R j (chosen isKept running kept) ≡ true → cell_part isKept R j running kept ≡ in_order (cell_at R (chosen isKept running kept) j)
   unfolding cell_part
-  part_is_cell h = let m = chosen isKept running kept in rw h (cell-numbers R m j (fits R j m h))
+  part_is_cell h = let m = chosen isKept running kept in rw h (cell-numbers R m j (part_fits R j m h))
 
   pub part_refused : readable R j (chosen isKept running kept) ≡ false → cell_part isKept R j running kept ≡ []
   unfolding cell_part

@@ -2,7 +2,7 @@
 use Prim.Native.Nat.{ℕ, zero, suc, ◌+◌, ◌*◌, ◌≤◌, ◌<◌}
 use mathlib.Core.Path.{◌≡◌, refl, ◌∙◌}
 use mathlib.Core.Logic.{◌≢◌}
-use mathlib.Core.Bool.{Bool, true, false, ◌&&◌, not}
+use mathlib.Core.Bool.{true, false, ◌&&◌, and-false, not}
 use mathlib.Core.List.{List}
 use native.Mathlib.Omega.{arith}
 use native.Mathlib.Decide.{ℕ_discrete}
@@ -46,11 +46,7 @@ blank_unqueued mark c z = simp (eq-eqb _ _ z)
 
 pub below_unqueued : (mark : ℕ) (c : Cell) → c.index < mark → queued mark c ≡ false
 unfolding queued
-below_unqueued mark c l = rw (lt-leb _ _ l) (no_and (not (blank c)))
-  where
-    no_and : (x : Bool) → (x && false) ≡ false
-    no_and true = refl
-    no_and false = refl
+below_unqueued mark c l = rw (lt-leb _ _ l) (and-false (not (blank c)))
 
 -- Tail and Head lie around the queued indexes
 module _ (R mark : ℕ) (m : List ℕ) where
@@ -88,6 +84,14 @@ module _ (R mark : ℕ) (m : List ℕ) where
       let u = head_from tail k l in
       cond_cases (λ v. mark ≤ v) (queued mark (cell_at R m k)) (λ q. omega (arith, (queued_is mark (cell_at R m k) q).1)) (λ q. u)
 
+  pub mark_to_head : mark ≤ head_of R mark m
+  unfolding head_of tail_of
+  mark_to_head = head_from (tail_of R mark m) R (tail_from R)
+
+  pub head_to_tail : head_of R mark m ≤ tail_of R mark m
+  unfolding head_of
+  head_to_tail = head_under (tail_of R mark m) R
+
 -- of a sound image
 module _ (R n e : ℕ) (m : List ℕ) (s : SoundImage R n e m) where
   pub mark_bound : pass_mark R n m ≤ e
@@ -101,8 +105,7 @@ module _ (R n e : ℕ) (m : List ℕ) (s : SoundImage R n e m) where
       (λ j l q. (s.cells j l).occupied (queued_is (pass_mark R n m) (cell_at R m j) q).0) R (omega arith)
 
   pub head_bound : head_of R (pass_mark R n m) m ≤ e
-  unfolding head_of
-  head_bound = omega (arith, tail_bound, head_under R (pass_mark R n m) m (tail_of R (pass_mark R n m) m) R)
+  head_bound = omega (arith, tail_bound, head_to_tail R (pass_mark R n m) m)
 
 -- the views of the recovered image
 module _ (R n : ℕ) (m : List ℕ) (long : size R n ≤ length m) where

@@ -17,7 +17,7 @@ use Rattle.rules.specs.Answers.{found}
 use Rattle.rules.specs.Cut.{pass_mark, queued, tail_to, head_to, tail_of, head_of, count_of, finds, entry, entry_if, entries_at, queue_of, mended, recovered}
 use Rattle.rules.specs.Refusals.{kept_refusal}
 use Rattle.rules.specs.Listing.{host_kept}
-use Rattle.rules.proofs.Recovered.{max_under, max_equal, queued_is, is_queued, blank_unqueued, below_unqueued, tail_from, head_under, head_low, head_from, length_recovered, cell_recovered, copy_recovered, closed_recovered, tail_recovered, sound_recovered}
+use Rattle.rules.proofs.Recovered.{max_under, max_equal, queued_is, is_queued, blank_unqueued, below_unqueued, head_low, mark_to_head, head_to_tail, length_recovered, cell_recovered, copy_recovered, closed_recovered, tail_recovered, sound_recovered}
 use Rattle.rules.proofs.Joined.{count_same, join_same, join_none, join_split}
 use Rattle.rules.proofs.Kept.{kept_of, of_kept}
 
@@ -101,14 +101,6 @@ module _ (R n : ℕ) (m : List ℕ) where
   unfolding head_of
   low j l q = head_low R mark m tail R j l q
 
-  pub mark_to_head : mark ≤ head
-  unfolding head_of tail_of
-  mark_to_head = head_from R mark m (tail_to R mark m R) R (tail_from R mark m R)
-
-  pub head_to_tail : head ≤ tail
-  unfolding head_of
-  head_to_tail = head_under R mark m tail R
-
   module _ (long : size R n ≤ length m) where
     -- the same cells are queued, under the same numbers
     same_queued : (j : ℕ) → j < R → queued head (cell_at R (recovered R n m) j) ≡ queued mark (cell_at R m j)
@@ -126,7 +118,7 @@ module _ (R n : ℕ) (m : List ℕ) where
         omega arith
 
     tail_to_lem : (k : ℕ) → k ≤ R → tail_to R head (recovered R n m) k ≡ max head (tail_to R mark m k)
-    tail_to_lem zero l = omega (arith, mark_to_head)
+    tail_to_lem zero l = omega (arith, mark_to_head R mark m)
     tail_to_lem (suc k) l = rw (same_queued k (omega arith)) (by (tail_to_lem k (omega arith)) (queued mark (cell_at R m k)) refl)
       where
         by : tail_to R head (recovered R n m) k ≡ max head (tail_to R mark m k) → (b : Bool) → queued mark (cell_at R m k) ≡ b
@@ -137,7 +129,7 @@ module _ (R n : ℕ) (m : List ℕ) where
 
     pub tail_again : tail_of R head (recovered R n m) ≡ tail
     unfolding tail_of
-    tail_again = omega (arith, tail_to_lem R (omega arith), head_to_tail)
+    tail_again = omega (arith, tail_to_lem R (omega arith), head_to_tail R mark m)
 
     head_to_lem : (t k : ℕ) → k ≤ R → head_to R head t (recovered R n m) k ≡ head_to R mark t m k
     head_to_lem t zero l = refl
@@ -188,10 +180,10 @@ module _ (R n : ℕ) (m : List ℕ) where
     pub queue_again : 1 ≤ R → queue_of R n (recovered R n m) ≡ queue_of R n m
     unfolding queue_of
     queue_again some =
-        let d : tail - mark ≡ (head - mark) + (tail - head) = omega (arith, mark_to_head, head_to_tail) in
-        let e : mark + (head - mark) ≡ head = omega (arith, mark_to_head) in
+        let d : tail - mark ≡ (head - mark) + (tail - head) = omega (arith, mark_to_head R mark m, head_to_tail R mark m) in
+        let e : mark + (head - mark) ≡ head = omega (arith, mark_to_head R mark m) in
         rw (mark_again some, tail_again, d, join_split (entries_at R mark m) mark (head - mark) (tail - head), e)
-        (rw (join_none (entries_at R mark m) mark (head - mark) (λ x a b. none_below x (omega (arith, mark_to_head))))
+        (rw (join_none (entries_at R mark m) mark (head - mark) (λ x a b. none_below x (omega (arith, mark_to_head R mark m))))
         (join_same _ _ head (tail - head) (λ x a b. entries_again x)))
 
     -- the image itself

@@ -31,7 +31,7 @@ module _ {A : Type 0} (Before : A → A → Type 0) where
   rising_join f lo zero r h = none
   rising_join f lo (suc k) r h =
       rising_append (f lo) (join_from f (suc lo) k) (r lo) (rising_join f (suc lo) k r h)
-      (λ a b p q. let z = join_from_lem f (suc lo) k q in let y = z.1 in h lo z.0 (omega arith) a b p z.3)
+      (λ a b p q. let z = join_from_lem f (suc lo) k q in h lo z.0 (omega arith) a b p z.3)
 
   -- the last comes after all before it
   pub rising_last : (s : List A) (e a : A) → Rising Before (s ++ (e ∷ [])) → Memᴰ a s → Before a e

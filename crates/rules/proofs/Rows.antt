@@ -2,7 +2,7 @@
 use Prim.Native.Nat.{ℕ, ◌+◌, ◌-◌, ◌≤◌, ◌<◌}
 use mathlib.Core.Path.{◌≡◌, refl}
 use mathlib.Core.Logic.{◌≢◌, inl, inr}
-use mathlib.Core.Bool.{Bool, true, false, cond, ◌&&◌, ◌||◌}
+use mathlib.Core.Bool.{true, cond, ◌&&◌, ◌||◌}
 use mathlib.Core.List.{List}
 use native.Mathlib.Omega.{arith}
 use native.Mathlib.Nat.{mod-lt}
@@ -10,6 +10,7 @@ use native.Mathlib.Decide.{ℕ_discrete}
 use lib.Dec.{eqb, leb, ltb}
 use lib.ListN.{length}
 use borrow.Author.Tests.{eqb-true, eqb-false, lt-ltb}
+use Rattle.std.proofs.lemmas.Bool.{or_parts}
 use Rattle.rules.specs.declared.Line.{Line}
 use Rattle.rules.specs.declared.Line.TheVariants.{Copy, Tail, Cell as CellLine}
 use Rattle.rules.specs.declared.Cell.{Cell}
@@ -43,13 +44,16 @@ pub thread-more : {R n S e i : ℕ} {t : Thread} → SoundThread R n S e i t →
 thread-more (inl q) = inl q
 thread-more (inr b) = inr (busy-more b)
 
-pub image-more : {R n e : ℕ} {m : List ℕ} → SoundImage R n e m → SoundImage R n (e + 1) m
-image-more s = record {
+pub image_later : {R n e f : ℕ} {m : List ℕ} → e ≤ f → SoundImage R n e m → SoundImage R n f m
+image_later h s = record {
   cells = λ j l. let c = s.cells j l in record { safe = c.safe; mark = omega (arith, c.mark); blank = omega (arith, c.blank); occupied = λ z. omega (arith, c.occupied z) };
   copies = λ t l. omega (arith, s.copies t l);
   closed = s.closed;
   tail = omega (arith, s.tail);
 }
+
+pub image-more : {R n e : ℕ} {m : List ℕ} → SoundImage R n e m → SoundImage R n (e + 1) m
+image-more = image_later (omega arith)
 
 -- a sound image after each store
 module _ (R n e : ℕ) (m : List ℕ) (s : SoundImage R n e m) (long : size R n ≤ length m) where
@@ -198,11 +202,7 @@ module _ (g : Ring) (i : ℕ) (t : Thread) (m : List ℕ) (r : SoundRing g) (b :
       (cond_cases (SoundThread g.cells g.threads g.tries (g.events + 1) i) (gives_up g t)
       (λ q. puts P9 t.number t.looked (g.tries - 1) t.awaited (omega arith) (omega arith) (omega arith) n (omega (arith, r.range.some_tries)) b.awaited)
       (λ q. puts P1 t.number t.looked (t.tries + 1) t.awaited (omega arith) (omega arith) (omega arith) n
-      (let d = eqb-false (t.tries + 1) g.tries (right (leb (g.head + g.cells) t.number) _ q) in omega (arith, b.tries)) b.awaited))
-    where
-      right : (p q : Bool) → (p || q) ≡ false → q ≡ false
-      right true q h = cc
-      right false q h = h
+      (let d = eqb-false (t.tries + 1) g.tries (or_parts (leb (g.head + g.cells) t.number) _ q).1 in omega (arith, b.tries)) b.awaited))
 
   keep_p9 : t.place ≡ P9 → Keeps g i m (row_p9 g i t m)
   unfolding row_p9
@@ -240,7 +240,6 @@ module _ (g : Ring) (i : ℕ) (t : Thread) (m : List ℕ) (r : SoundRing g) (b :
 
   passes : T2 ≤ t.place → SoundCell g.cells (g.events + 1) (passed_cell g t m)
   passes z =
-      let n = b.number (omega arith) (omega arith) in
       record { safe = (s.cells (spot g t) there).safe; mark = omega arith; blank = omega arith; occupied = λ q. absurd (q refl) }
 
   keep_t3 : t.place ≡ T3 → Keeps g i m (row_t3 g i t m)

@@ -1,13 +1,14 @@
 -- The tests of soundness hold exactly where its facts do.
 use Prim.Native.Nat.{ℕ, ◌+◌, ◌≤◌, ◌<◌}
-use mathlib.Core.Path.{◌≡◌, refl, sym, ◌∙◌}
+use mathlib.Core.Path.{◌≡◌, refl}
 use mathlib.Core.Logic.{◌≢◌, inl, inr}
-use mathlib.Core.Bool.{Bool, true, false, cond, ◌&&◌, ◌||◌, not}
+use mathlib.Core.Bool.{Bool, true, false, cond, ◌&&◌, ◌||◌, and-false, not}
 use mathlib.Core.List.{List}
 use native.Mathlib.Omega.{arith}
 use native.Mathlib.Decide.{ℕ_discrete}
 use lib.Dec.{lit<, eqb, leb, ltb}
-use borrow.Author.Tests.{leb-true, leb-false, ltb-true, ltb-false, eqb-true, eqb-false, le-leb, lt-ltb, le-ltb, lt-leb, eq-eqb, ne_eqb, not-false, not-true}
+use Rattle.std.proofs.lemmas.Bool.{or_parts, or_left, or_right}
+use borrow.Author.Tests.{leb-true, leb-false, ltb-true, ltb-false, eqb-true, eqb-false, le-leb, lt-ltb, le-ltb, lt-leb, eq-eqb, ne_eqb, not-false}
 use Rattle.rules.specs.declared.Line.{Line}
 use Rattle.rules.specs.declared.Line.TheVariants.{None, Copy, Tail, Cell as CellLine}
 use Rattle.rules.specs.declared.Cell.{Cell}
@@ -102,13 +103,6 @@ pub one_of : (p q : Bool) → (p || q) ≡ true → p ≡ false → q ≡ true
 one_of true q h e = cc
 one_of false q h e = h
 
-pub or_left : (p q : Bool) → p ≡ true → (p || q) ≡ true
-or_left p q e = rw e
-
-pub or_right : (p q : Bool) → q ≡ true → (p || q) ≡ true
-or_right true q e = refl
-or_right false q e = e
-
 -- a number that isn't below the event count is zero, at P1 or T1
 zero_of : (g : Ring) (t : Thread) → sound_number g t ≡ true → ltb t.number g.events ≡ false → (t.number ≡ 0) × ((eqb t.place P1 || eqb t.place T1) ≡ true)
 unfolding sound_number
@@ -137,7 +131,7 @@ module _ (g : Ring) (i : ℕ) (t : Thread) where
       }
     where
       filled : not (putting t.place && eqb t.item 0) ≡ true → (putting t.place && eqb t.item 0) ≡ true → ⊥
-      filled a b = let z : ◌≡◌ {A = Bool} true false = sym b ∙ not-true _ a in let y : ◌≡◌ {A = ℕ} 0 1 = cc in omega arith
+      filled a b = cc
 
       below : (P : ℕ → Type 0) → sound_number g t ≡ true → (t.number < g.events → P t.number)
           → (t.number ≡ 0 → (eqb t.place P1 || eqb t.place T1) ≡ true → P t.number) → P t.number
@@ -154,13 +148,9 @@ module _ (g : Ring) (i : ℕ) (t : Thread) where
   unfolding sound_thread
   thread_of h = by (eqb t.place 0 || leb g.threads i) refl h
     where
-      neither : (p q : Bool) → (p || q) ≡ false → q ≡ false
-      neither true q e = cc
-      neither false q e = e
-
       by : (b : Bool) → (eqb t.place 0 || leb g.threads i) ≡ b → cond b (all_zero t) (sound_busy g t) ≡ true → SoundThread g.cells g.threads g.tries g.events i t
       by true e a = inl (idle_of t a)
-      by false e a = inr (busy_of (leb-false _ _ (neither (eqb t.place 0) _ e)) a)
+      by false e a = inr (busy_of (leb-false _ _ (or_parts (eqb t.place 0) _ e).1) a)
 
   of_busy : Busy g.cells g.threads g.tries g.events i t → sound_thread g i t ≡ true
   unfolding sound_thread sound_busy sound_number
@@ -170,11 +160,7 @@ module _ (g : Ring) (i : ℕ) (t : Thread) where
       number
     where
       filled : (z : Bool) → eqb t.item 0 ≡ z → not (leb t.place P10 && z) ≡ true
-      filled false e = rw (no_and (leb t.place P10))
-        where
-          no_and : (x : Bool) → (x && false) ≡ false
-          no_and true = refl
-          no_and false = refl
+      filled false e = rw (and-false (leb t.place P10))
       filled true e = by (leb t.place P10) refl
         where
           by : (x : Bool) → leb t.place P10 ≡ x → not (x && true) ≡ true

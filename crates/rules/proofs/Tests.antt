@@ -8,6 +8,7 @@ use native.Mathlib.Omega.{arith}
 use native.Mathlib.Decide.{ℕ_discrete, dec_lt}
 use lib.ListN.{length, get_or, set, replicate}
 use lib.Seq.{get_or-set_same, get_or-set_other, set_out}
+pub use Rattle.std.proofs.lemmas.Bool.{and_parts as both, and_from as and_both}
 use Rattle.rules.specs.Upto.{all_to}
 
 -- a fact of a branch
@@ -15,14 +16,7 @@ pub cond_cases {ℓ κ} : {A : Type ℓ} (P : A → Type κ) (b : Bool) {x y : A
 cond_cases P true f g = f refl
 cond_cases P false f g = g refl
 
--- both tests hold
-pub both : (a b : Bool) → (a && b) ≡ true → (a ≡ true) × (b ≡ true)
-both true b h = (refl, h)
-both false b h = (h, cc)
-
-pub and_both : (a b : Bool) → a ≡ true → b ≡ true → (a && b) ≡ true
-and_both a b p q = rw (p, q)
-
+-- not both tests hold, and the first does
 pub not_both : (a b : Bool) → (a && b) ≡ false → a ≡ true → b ≡ false
 not_both true b e p = e
 not_both false b e p = cc
@@ -49,7 +43,7 @@ set_cases P l i j x d p q r = elim (ℕ_discrete i j) [ no n ↦ rw (get_or-set_
     at : i ≡ j → P (get_or (set l j x) i d)
     at e = elim (dec_lt j (length l)) [ yes h ↦ rw (e, get_or-set_same l j x d h) (p e) | no n ↦ rw (set_out l j x (omega arith)) r ]
 
-pub getD-all {ℓ} : {A : Type ℓ} (n t : ℕ) (x : A) → get_or (replicate n x) t x ≡ x
-getD-all zero t x = refl
-getD-all (suc n) zero x = refl
-getD-all (suc n) (suc t) x = getD-all n t x
+pub get_or-all {ℓ} : {A : Type ℓ} (n t : ℕ) (x : A) → get_or (replicate n x) t x ≡ x
+get_or-all zero t x = refl
+get_or-all (suc n) zero x = refl
+get_or-all (suc n) (suc t) x = get_or-all n t x

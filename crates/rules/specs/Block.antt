@@ -13,7 +13,7 @@ use Rattle.rules.specs.Events.{event}
 unfoldable pub is_kind : ℕ → Bool
 is_kind k = leb 1 k && leb k 7
 
--- the event of a kind, a thread or line and an item; a number that the kind has no use for is not looked at
+-- the event of a kind, a thread or line and an item; a number that the kind has no use for is not looked at. A number that is no kind makes a cut too: `event_in` tells them apart
 unfoldable pub event_of : ℕ → ℕ → ℕ → Event
 event_of k i x =
     cond (eqb k 1) (Put i x)

@@ -42,6 +42,7 @@ SoundThread R n S e i t = (t ≡ idle) ⊎ Busy R n S e i t
 pub record SoundCell (R e : ℕ) (c : Cell) : Type 0 where
   pub safe : c.safe ≤ 1
   pub mark : c.mark ≤ e
+  -- of a blank cell the whole bound; an occupied one has it too
   pub blank : c.index < e + R
   pub occupied : c.item ≢ 0 → c.index < e
 

@@ -1,4 +1,4 @@
--- Document 01, "Numbers and memory": where each number stands in an image. No other file of definitions knows.
+-- Document 01, "Numbers and memory": where each number stands in an image. No other definition knows, but for the made-up images of `Cases`.
 use Rattle.std.specs.Prelude.{ℕ, zero, suc, ◌+◌, ◌*◌, List, set, get_or, take, drop}
 use Rattle.rules.specs.declared.Cell.{Cell}
 use Rattle.rules.specs.Record.{cell}

@@ -1,5 +1,5 @@
 -- Document 01, "Listing, reading, host": the cell reader.
-use Rattle.std.specs.Prelude.{ℕ, List, [], Bool, cond, ◌&&◌, leb, ltb, length}
+use Rattle.std.specs.Prelude.{ℕ, ◌*◌, List, [], Bool, cond, ◌&&◌, leb, ltb, length}
 use Rattle.rules.specs.Numbers.{max_cells}
 use Rattle.rules.specs.Memory.{cell_numbers, cells_size}
 
@@ -16,3 +16,7 @@ unfoldable pub cell_part : Bool → ℕ → ℕ → List ℕ → List ℕ → Li
 cell_part isKept R j running kept =
     let m = chosen isKept running kept in
     cond (readable R j m) (cell_numbers R m j) []
+
+-- how many bytes into the chosen image that part begins: cell j stands at number 4j, and a number has four bytes. A part of length 0 begins where the image does
+unfoldable pub part_from : Bool → ℕ → ℕ → List ℕ → List ℕ → ℕ
+part_from isKept R j running kept = cond (readable R j (chosen isKept running kept)) (4 * (4 * j)) 0

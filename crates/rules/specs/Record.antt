@@ -39,7 +39,7 @@ with_thread c i t = record { ring = c.ring; thread = set c.thread i t }
 abbrev pub with_ring : Control → Ring → Control
 with_ring c g = record { ring = g; thread = c.thread }
 
--- one event more; Head drawn
+-- one event more; Head drawn; Head as a cut finds it
 abbrev pub counted : Ring → Ring
 counted g = ring_of g.cells g.threads g.tries (g.events + 1) g.head
 

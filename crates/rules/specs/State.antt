@@ -3,7 +3,6 @@ use Rattle.std.specs.Prelude.{ℕ, List, cond, eqb}
 use Rattle.rules.specs.declared.Control.{Control}
 use Rattle.rules.specs.declared.Answer.{Answer}
 use Rattle.rules.specs.declared.Answer.TheVariants.{Refused}
-use Rattle.rules.specs.declared.Outcome.{Outcome}
 
 pub record State : Type 0 where
   pub control : Control
@@ -19,10 +18,6 @@ pub record Out : Type 0 where
 
 abbrev pub out : State → Answer → Out
 out s a = record { state = s; answer = a }
-
--- record and answer, as an entry hands them back
-abbrev pub outcome : Out → Outcome
-outcome o = record { control = o.state.control; answer = o.answer }
 
 -- a refusal gives its number; record and images stay untouched
 abbrev pub refused : State → ℕ → Out

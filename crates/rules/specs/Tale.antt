@@ -94,8 +94,16 @@ GoneAt n c t x = (t < n) × (c.held t ≡ some x) × (x < c.found.mark)
 abbrev pub Gone : ℕ → List CutOff → ℕ → Type 0
 Gone n l x = (c : CutOff) × In c l × ((t : ℕ) × GoneAt n c t x)
 
--- a tale that leaves none of these answers out: every OK and every ITEM stands in it under its number, and CLOSED too
+-- a tale that leaves none of these answers out: every OK, every ITEM and every landed answer stands in it under its number, and CLOSED too
 pub record Heard (l : List Answer) (h : Tale) : Type 0 where
   pub oks : (b : By) (i : ℕ) → In (Ok b i) l → In i (h.confirmed b.number)
   pub items : (b : By) (i : ℕ) → In (Item b i) l → In i (h.handed b.number)
+  pub landings : (b : By) (j i : ℕ) → In (Landed b j i) l → In i (h.landings b.number)
   pub closed : (b : By) → In (Closed b) l → h.closed ≡ true
+
+-- a tale that tells of no others: every OK, every ITEM and every landed answer that stands in it under a number is one of these with that number, and CLOSED too
+pub record Answered (l : List Answer) (h : Tale) : Type 0 where
+  pub oks : (x i : ℕ) → In i (h.confirmed x) → (b : By) × (b.number ≡ x) × In (Ok b i) l
+  pub items : (x i : ℕ) → In i (h.handed x) → (b : By) × (b.number ≡ x) × In (Item b i) l
+  pub landings : (x i : ℕ) → In i (h.landings x) → (b : By) × ((j : ℕ) × (b.number ≡ x) × In (Landed b j i) l)
+  pub closed : h.closed ≡ true → (b : By) × In (Closed b) l

@@ -1,4 +1,4 @@
--- Tests, largest numbers, counts and lists over the numbers 0 .. k - 1, as loops go through them.
+-- Tests, largest numbers and counts over the numbers 0 .. k - 1, and lists over k numbers from one on, as loops go through them.
 use Rattle.std.specs.Prelude.{ℕ, zero, suc, max, List, [], ◌++◌, Bool, true, cond, ◌&&◌}
 
 -- all pass the test

@@ -17,7 +17,7 @@ pub enum Line {
     Tail,
 }
 
-// A cell's four numbers as they stand in an image, of which safe is no bool: an image that isn't sound has any number there.
+// A cell's four numbers as they stand in an image, of which safe is no bool: an image that isn't sound has any number there. Item 0 is blank and no None: so the page has it.
 #[derive(Clone, Copy, Default, PartialEq, Eq)]
 pub struct Cell {
     pub safe: u32,
@@ -26,7 +26,7 @@ pub struct Cell {
     pub mark: u32,
 }
 
-// One thread's record. Its place is a number and no enum: document 01 asks for one match on it, with ranges (`places`).
+// One thread's record. Its place is a number and no enum: document 01 asks for one match on it, with ranges (`places`). An idle one is all zeros, place and item too: so the page has it.
 #[derive(Clone, Copy, Default, PartialEq, Eq)]
 pub struct Thread {
     pub place: u32,
@@ -99,7 +99,7 @@ pub struct By {
     pub number: u32,
 }
 
-// What a cut found and left.
+// What a cut found and left. closed is no bool: it is a word of an image, as the definitions `finds` and `numbers` have it.
 #[derive(Clone, Copy)]
 pub struct Found {
     pub mark: u32,
@@ -109,7 +109,7 @@ pub struct Found {
     pub count: u32,
 }
 
-// A refusal is its number here: `six_one_to_one` speaks of every number.
+// A refusal is its number here: the definitions `refused` and `numbers` give it one.
 #[derive(Clone, Copy)]
 pub enum Answer {
     Refused(u32),
@@ -172,7 +172,7 @@ impl From<Refusal> for Answer {
 }
 
 impl Line {
-    // What the line is, as a number: none 0, a cell 1, a copy 2, Tail 3. No `as u32`: two cases hold a number.
+    // What the line is, as a number: none 0, a cell 1, a copy 2, Tail 3. Public, and `kind_only` speaks of it; no `as u32`: two cases hold a number.
     pub fn kind(self) -> u32
         ensures { result ≡ line_kind self }
     {
@@ -184,7 +184,7 @@ impl Line {
         }
     }
 
-    // Which cell or which copy, 0 for the other two.
+    // Which cell or which copy, 0 for the other two. Public, and `place_only` speaks of it.
     pub fn place(self) -> u32
         ensures { result ≡ line_place self }
     {
@@ -207,7 +207,7 @@ impl Thread {
 }
 
 impl Ring {
-    // One event more. At the run limit the numbers stay as they are. It and `draw` stay two: one method that is given the field would be no shorter.
+    // One event more. At the run limit the numbers stay as they are. It and `draw` stay two: document 01 names both, and one method that is given the field would be no shorter.
     #[tactic(auto, unfolding(crate::specs::Record::counted_at))]
     pub fn count(mut self) -> Ring
         ensures { result ≡ counted_at self }

@@ -14,7 +14,7 @@ pub fn is_kind(kind: u32) -> bool
     matches!(kind, 1..=7)
 }
 
-// The event of a kind, a thread or line and an item.
+// The event of a kind, a thread or line and an item: a match that gives a value. A number that is no kind makes a cut too: `event_in` tells them apart.
 #[tactic(auto, unfolding(rules::specs::Block::event_of))]
 pub fn event_of(kind: u32, place: u32, item: u32) -> Event
     ensures { result ≡ event_of kind place item }
@@ -36,11 +36,7 @@ pub fn event_in(three: [u32; 3]) -> Option<Event>
     ensures { result ≡ event_in three }
 {
     let [kind, place, item] = three;
-    if is_kind(kind) {
-        Some(event_of(kind, place, item))
-    } else {
-        None
-    }
+    is_kind(kind).then(|| event_of(kind, place, item))
 }
 
 // An answer in six numbers: its own, its values, and zeros. A function, as `event_in` is: neither type is this crate's, so `From` could not be implemented here.

@@ -59,7 +59,7 @@ loop-next-preserved c =
       same_running = w.auto.running ∙ r.auto.running ∙ i.same_running;
       same_kept = w.auto.kept ∙ r.auto.kept ∙ i.same_kept;
       buffer = record { size = p.written.buffer.size ∙ size; name = p.written.buffer.name ∙ r.ensures.buffer.name ∙ i.buffer.name };
-      later = let m = p.written.wrote.place in let n = r.ensures.room.1 in let x = i.later in omega arith;
+      later = omega arith;
       room = room_next a.at l.text.at l.left (length a.out.now) t.at r.result.left _ i.later i.room r.ensures.room.1 r.ensures.room.2 size _ z p.near;
       is = rw (c.clear.ensures.bytes, c.clear.ensures.len) (i.is ∙ r.ensures.same ∙ run_scan r.result.left _ r.new.carry.bytes _ r.new.carry.len r.result.next _ _ _ _ _ s.ensures.scan
           ∙ run_line r.result.left _ _ _ _ _ _ _ _ _ _ _ h (s.ensures.stops.1 h) z c.line.ensures w.ensures.run p.written.wrote.place p.written.wrote.bytes);

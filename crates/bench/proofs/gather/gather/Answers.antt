@@ -9,7 +9,7 @@ loop-count-preserved c =
     let h = c.if-block-next.false in
     let s = c.scan_line-next.ensures in
     record {
-      later = let k = s.stops.0 in let i = l.invariant.later in omega arith;
+      later = omega arith;
       gathers = rw (c.clear.ensures.bytes, c.clear.ensures.len)
           (gather_line _ _ _ _ _ l.events _ _ c.in-Some.three _ _ _ (gather_scan _ _ _ _ _ _ l.carry.bytes _ l.carry.len l.next _ _ _ l.invariant.gathers s.scan)
           h (s.stops.1 h) c.loop-count-test.true (omega arith)

@@ -8,5 +8,4 @@ pub returns-clause-same : goal.returns-clause-same
 returns-clause-same c =
     let a = c.args in
     let m = c.most_of-most.ensures in
-    let e = m.most in
     told-poured a.left _ _ (run_with a.b a.running.now a.kept.now) _ _ _ _ _ _ _ _ _ _ _ _ _ c.gather-g.ensures.gathers m.small.0 (λ h. most_running a.b.phase a.left (omega arith)) c.run_gathered-bench.ensures

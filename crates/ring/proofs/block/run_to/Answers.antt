@@ -15,12 +15,12 @@ loop-j-preserved c =
     let e = c.event_in.ensures in
     let t = c.tell.ensures in
     elim c.match-event_in.branch [
-      | in-Some+in-Put w ↦ at_by _ _ w.running-is w.kept-is w.g-is w.threads-is w.answer-is t (moved_at a l _ _ w.in-Put.i w.put-m.result (sym (w.in-Some.is ∙ ap Some w.in-Put.is) ∙ e) (w.put-m.ensures c.loop-j.running) (put_left s _ _) refl)
-      | in-Some+in-Take w ↦ at_by _ _ w.running-is w.kept-is w.g-is w.threads-is w.answer-is t (moved_at a l _ _ w.in-Take.i w.take-m.result (sym (w.in-Some.is ∙ ap Some w.in-Take.is) ∙ e) (w.take-m.ensures c.loop-j.running) (take_left s _) refl)
-      | in-Some+in-Go w ↦ at_by _ _ w.running-is w.kept-is w.g-is w.threads-is w.answer-is t (moved_at a l _ _ w.in-Go.i w.go-m.result (sym (w.in-Some.is ∙ ap Some w.in-Go.is) ∙ e) w.go-m.ensures (go_left s _) (search rules))
+      | in-Some+in-Put w ↦ at_by _ _ w.running-is w.kept-is w.g-is w.threads-is w.answer-is t (moved_at a l _ _ w.in-Put.i _ (sym (w.in-Some.is ∙ ap Some w.in-Put.is) ∙ e) (w.put-answer.ensures c.loop-j.running) (put_left s _ _) refl)
+      | in-Some+in-Take w ↦ at_by _ _ w.running-is w.kept-is w.g-is w.threads-is w.answer-is t (moved_at a l _ _ w.in-Take.i _ (sym (w.in-Some.is ∙ ap Some w.in-Take.is) ∙ e) (w.take-answer.ensures c.loop-j.running) (take_left s _) refl)
+      | in-Some+in-Go w ↦ at_by _ _ w.running-is w.kept-is w.g-is w.threads-is w.answer-is t (moved_at a l _ _ w.in-Go.i _ (sym (w.in-Some.is ∙ ap Some w.in-Go.is) ∙ e) w.go-answer.ensures (go_left s _) (search rules))
       | in-Some+in-Back+in-Err w ↦ at_by _ _ w.running-is w.kept-is w.g-is w.threads-is (w.answer-is ∙ w.into.ensures) t (kept_at a l _ _ (sym (w.in-Some.is ∙ ap Some w.in-Back.is) ∙ e) (search rules))
       | in-Some+in-Back+in-Ok w ↦ at_by _ _ w.running-is w.kept-is w.g-is w.threads-is w.answer-is t
-          (written_at a l _ _ _ _ (sym (w.in-Some.is ∙ ap Some w.in-Back.is) ∙ e) w.in-Ok.ensures.refusal w.in-Ok.ensures.accepted.0 (w.written-threads.ensures.threads, rw (w.of.ensures.0, w.of.ensures.1) at w.written-threads.ensures.kept) w.count-g.ensures (search rules))
+          (written_at a l _ _ _ _ (sym (w.in-Some.is ∙ ap Some w.in-Back.is) ∙ e) w.in-Ok.ensures.refusal w.in-Ok.ensures.accepted.0 (w.written.ensures.threads, rw (w.of.ensures.0, w.of.ensures.1) at w.written.ensures.kept) w.count-g.ensures (search rules))
       | in-Some+in_default w ↦ at_by _ _ w.running-is w.kept-is w.g-is w.threads-is w.answer-is t (event_at a l _ _ _ w.any-o.result.control w.any-o.result.answer (sym (w.in-Some.is ∙ ap Some (elim w.in_default.branch [ in_default-via-in-Put+else-i-g v ↦ v.in-Put.is ∙ sym v.e-is | in_default-via-in-Take+else-i-g-2 v ↦ v.in-Take.is ∙ sym v.e-is | in_default-via-in-Go+else-i-g-3 v ↦ v.in-Go.is ∙ sym v.e-is | in_default-via-in_default v ↦ sym v.e-is ])) ∙ e) w.any-o.ensures (search rules) (search rules))
       | in-None w ↦ at_by _ _ w.running-is w.kept-is w.g-is w.threads-is (w.answer-is ∙ w.into-answer.ensures) t (text_at a l _ (sym w.in-None.is ∙ e))
     ]

@@ -8,5 +8,5 @@ pub loop-t-preserved : goal.loop-t-preserved
 loop-t-preserved c =
     let i = c.loop-t in
     let a = c.args in
-    let h : i.t-index < length a.threads = omega arith in
-    rw (add-one, c.release.ensures, i.invariant, sweep_next (released a.line) a.threads i.t-index idle h)
+    let h : i.t-index < length a.threads.now = omega arith in
+    rw (add-one, c.release.ensures, i.invariant, sweep_next (released a.line) a.threads.now i.t-index idle h)

@@ -9,5 +9,5 @@ pub returns : goal.returns
 returns c =
     let a = c.args in
     let s = state a.c a.running.now a.kept.now in
-    let e = rw c.of.ensures at (c.take.ensures a.running.now) in
-    rw c.placed.ensures (ap (λ (y : Step). left s a.i y) e ∙ take_left s a.i)
+    let e = rw c.of-t.ensures at (c.take-answer.ensures a.running.now) in
+    rw (c.placed.ensures, c.done.ensures) (ap (λ (y : Step). left s a.i y) e ∙ take_left s a.i)

@@ -11,5 +11,5 @@ returns-in-Ok c =
     let a = c.args in
     let o = c.in-Ok.ensures in
     let y = c.requires.1 o.accepted.1 in
-    let l = ap (λ (x : Step). x.moved.ring.events) c.row-after.ensures ∙ (keep_row a.t.ring a.t.who a.t.thread a.m.now y.ring y.thread y.image y.long).events in
-    rw (c.count.ensures ∙ counts_below _ (rw l o.accepted.0), ← o.refusal, ← c.row-after.ensures)
+    let l = ap (λ (x : Step). x.moved.ring.events) c.row-answer.ensures ∙ (keep_row a.t.now.ring a.t.now.who a.t.now.thread a.m.now y.ring y.thread y.image y.long).events in
+    rw (c.count-t.ensures ∙ counts_below _ (rw l o.accepted.0), ← o.refusal, ← c.row-answer.ensures)
