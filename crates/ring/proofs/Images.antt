@@ -7,10 +7,9 @@ use Rattle.std.proofs.lemmas.List.{set_at, length-take-le, get_or-take, get_or-d
 use Rattle.std.proofs.lemmas.List.FromFn.{fill_by_all, length-map-range_with_len, get_or-map-range_with_len}
 use Rattle.rules.specs.declared.Cell.{Cell}
 use Rattle.rules.specs.Upto.{all_to, max_to, count_to}
-use Rattle.rules.specs.Memory.{over_to, cell_at, copy_at, set_copy, copies_to}
+use Rattle.rules.specs.Memory.{over_to, cell_at, cells_in, copy_at, set_copy, copies_to}
 use Rattle.rules.specs.Cut.{queued, tail_to, head_to, tail_of, count_of}
 use Rattle.rules.proofs.Tests.{all_at, at_all}
-use Rattle.ring.specs.Cells.{cells_in}
 
 -- numbers copied over the front
 pub over_front : (m r : List ℕ) (k : ℕ) → k ≤ length m → k ≤ length r → take k m ++ drop k r ≡ over_to m r k

@@ -13,3 +13,7 @@ module _ {A : Type 0} (f : A → A) where
   sweep_next [] k d h = absurd (omega arith)
   sweep_next (x ∷ l) zero d h = refl
   sweep_next (x ∷ l) (suc k) d h = ap (λ (r : List A). f x ∷ r) (sweep_next l k d (omega arith))
+
+  pub sweep_all : (l : List A) → sweep_to l (length l) ≡ map f l
+  sweep_all [] = refl
+  sweep_all (x ∷ l) = ap (λ (r : List A). f x ∷ r) (sweep_all l)

@@ -1,14 +1,8 @@
--- The cells of an image as a list, and how large their indexes are.
-use Rattle.std.specs.Prelude.{ℕ, ◌+◌, ◌<◌, List, [], ◌∷◌}
+-- How large the indexes of an image's cells are.
+use Rattle.std.specs.Prelude.{ℕ, ◌+◌, ◌<◌, List}
 use Rattle.rules.specs.declared.Cell.{Cell}
 use Rattle.rules.specs.Numbers.{max_cells, run_limit}
-use Rattle.rules.specs.Record.{cell}
 use Rattle.rules.specs.Memory.{cell_at}
-
--- four numbers each, in order; fewer than four at the end are none
-unfoldable pub cells_in : List ℕ → List Cell
-cells_in (s ∷ i ∷ x ∷ k ∷ m) = cell s i x k ∷ cells_in m
-cells_in _ = []
 
 -- an index to which a ring's R can be added, and times 64 a place
 abbrev pub IndexFits : Cell → Type 0

@@ -3,8 +3,7 @@ ghost use Rattle.std.specs.Prelude.{◌≡◌, ℕ, ◌+◌, ◌*◌, ◌<◌, �
 ghost use Rattle.std.specs.Iterator.{YieldsFirst, item_count};
 ghost use Rattle.rules.specs.Numbers.{max_cells, max_threads};
 ghost use Rattle.rules.specs.Facts.{SoundRing};
-ghost use Rattle.rules.specs.Memory.{cell_at, set_cell, copy_at, set_copy, closed_at, set_closed, tail_at, set_tail, size, cells_to, copies_to, over_to};
-ghost use Rattle.ring.specs.Cells.{cells_in};
+ghost use Rattle.rules.specs.Memory.{cell_at, cells_in, set_cell, copy_at, set_copy, closed_at, set_closed, tail_at, set_tail, size, cells_to, copies_to, over_to};
 
 use rules::{Cell, Ring};
 
@@ -21,7 +20,7 @@ impl Iterator for Cells<'_> {
 
     ghost remaining = { item_count (λ s. cells_in s.numbers.now) };
 
-    #[tactic(auto, unfolding(crate::specs::Cells::cells_in))]
+    #[tactic(auto, unfolding(rules::specs::Memory::cells_in))]
     fn next(&mut self) -> Option<Cell> {
         let [safe, index, item, mark, rest @ ..] = self.numbers else {
             return None;

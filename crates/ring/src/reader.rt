@@ -1,6 +1,6 @@
 // The cell reader.
 ghost use Rattle.std.specs.Prelude.{◌≡◌, ◌+◌, ◌*◌, cond, []};
-ghost use Rattle.rules.specs.Memory.{cell_numbers};
+ghost use Rattle.rules.specs.Memory.{cell_from, cell_numbers};
 ghost use Rattle.rules.specs.Reader.{readable, cell_part, part_from};
 
 use rules::Control;
@@ -18,7 +18,7 @@ fn is_readable(cells: u32, cell: u32, m: &[u32]) -> bool
 fn part_of<'a>(cells: u32, cell: u32, m: &'a [u32]) -> &'a [u32]
     ensures numbers { result.now ≡ cond (readable cells cell m.now) (cell_numbers cells m.now cell) [] }
     ensures block { result.ref_ptr.0 ≡ m.entry.ref_ptr.0 }
-    ensures place { result.ref_ptr.1 ≡ m.entry.ref_ptr.1 + cond (readable cells cell m.now) (4 * (4 * cell)) 0 }
+    ensures place { result.ref_ptr.1 ≡ m.entry.ref_ptr.1 + cond (readable cells cell m.now) (4 * cell_from cell) 0 }
 {
     if is_readable(cells, cell, m) {
         let a = 4 * (cell as usize);

@@ -3,9 +3,9 @@
 ghost use Rattle.std.specs.Prelude.{◌≡◌, ◌≤◌, ◌+◌, ◌*◌, length, take};
 ghost use Rattle.std.specs.List.{All};
 ghost use Rattle.rules.specs.Upto.{max_to};
-ghost use Rattle.rules.specs.Memory.{size, cell_at, copy_at};
+ghost use Rattle.rules.specs.Memory.{size, cell_at, cells_in, copy_at};
 ghost use Rattle.rules.specs.Cut.{pass_mark, queued, tail_of, head_to, count_of, finds, mended, recovered};
-ghost use Rattle.ring.specs.Cells.{cells_in, IndexFits, IndexesFit};
+ghost use Rattle.ring.specs.Cells.{IndexFits, IndexesFit};
 
 use crate::memory::Shape;
 use rules::{Cell, Found};

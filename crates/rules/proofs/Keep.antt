@@ -40,7 +40,7 @@ idle_at (inl q) z = q
 idle_at (inr b) z = absurd (omega (arith, b.first))
 
 -- threads once a line is written
-released-idle : (l : Line) → released l idle ≡ idle
+pub released-idle : (l : Line) → released l idle ≡ idle
 unfolding released ends
 released-idle l = refl
 

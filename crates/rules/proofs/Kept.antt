@@ -43,3 +43,8 @@ listing_of R n S e m room h =
     let f = unrefused (ltb (length room) R) 11 0 (lit< tt) d.1 in
     let r = both _ _ (not-false _ a.0) in
     (record { range = range_of R n S r.0; events = leb-true _ _ r.1; long = ltb-false _ _ b.0; image = image_of R n e m (not-false _ d.0) }, ltb-false _ _ f.0)
+
+pub of_listing : (R n S e : ℕ) (m room : List ℕ) → SoundKept R n S e m → R ≤ length room → listing_refusal R n S e m room ≡ 0
+unfolding listing_refusal
+of_listing R n S e m room k l =
+    simp (of_range R n S k.range, le-leb _ _ k.events, le-ltb _ _ k.long, of_image R n e m k.image, le-ltb _ _ l)

@@ -161,6 +161,10 @@ tail_closed R n m v = get_or-set_other m (4 * R + n) (4 * R + n + 1) v 0 (omega 
 
 -- all cells made anew
 module _ (R : ℕ) (f : ℕ → Cell → Cell) (m : List ℕ) where
+  pub cells_past : (k j : ℕ) → k ≤ j → cell_at R (cells_to R f m k) j ≡ cell_at R m j
+  cells_past zero j h = refl
+  cells_past (suc k) j h = cell_other R (cells_to R f m k) j k _ (omega arith) ∙ cells_past k j (omega arith)
+
   pub cells_at : (k j : ℕ) → 4 * k ≤ length m → j < k → cell_at R (cells_to R f m k) j ≡ f j (cell_at R m j)
   cells_at zero j l h = absurd (omega arith)
   cells_at (suc k) j l h =

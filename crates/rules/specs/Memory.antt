@@ -1,5 +1,5 @@
 -- Document 01, "Numbers and memory": where each number stands in an image. No other definition knows, but for the made-up images of `Cases`.
-use Rattle.std.specs.Prelude.{ℕ, zero, suc, ◌+◌, ◌*◌, List, set, get_or, take, drop}
+use Rattle.std.specs.Prelude.{ℕ, zero, suc, ◌+◌, ◌*◌, List, [], ◌∷◌, set, get_or, take, drop}
 use Rattle.rules.specs.declared.Cell.{Cell}
 use Rattle.rules.specs.Record.{cell}
 
@@ -10,9 +10,17 @@ cell_at R m j = cell (get_or m (4 * j) 0) (get_or m (4 * j + 1) 0) (get_or m (4 
 unfoldable pub set_cell : ℕ → List ℕ → ℕ → Cell → List ℕ
 set_cell R m j c = set (set (set (set m (4 * j) c.safe) (4 * j + 1) c.index) (4 * j + 2) c.item) (4 * j + 3) c.mark
 
--- its four numbers as they stand, and how many numbers the cells take
+-- the number that it begins at, its four numbers as they stand, and how many numbers the cells take
+abbrev pub cell_from : ℕ → ℕ
+cell_from j = 4 * j
+
 unfoldable pub cell_numbers : ℕ → List ℕ → ℕ → List ℕ
 cell_numbers R m j = take 4 (drop (4 * j) m)
+
+-- the cells that a run of numbers holds, in order; fewer than four numbers at the end are none
+unfoldable pub cells_in : List ℕ → List Cell
+cells_in (s ∷ i ∷ x ∷ k ∷ m) = cell s i x k ∷ cells_in m
+cells_in _ = []
 
 abbrev pub cells_size : ℕ → ℕ
 cells_size R = 4 * R

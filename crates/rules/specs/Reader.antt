@@ -1,7 +1,7 @@
 -- Document 01, "Listing, reading, host": the cell reader.
 use Rattle.std.specs.Prelude.{ℕ, ◌*◌, List, [], Bool, cond, ◌&&◌, leb, ltb, length}
 use Rattle.rules.specs.Numbers.{max_cells}
-use Rattle.rules.specs.Memory.{cell_numbers, cells_size}
+use Rattle.rules.specs.Memory.{cell_from, cell_numbers, cells_size}
 
 -- the image that is told
 abbrev pub chosen : Bool → List ℕ → List ℕ → List ℕ
@@ -17,6 +17,6 @@ cell_part isKept R j running kept =
     let m = chosen isKept running kept in
     cond (readable R j m) (cell_numbers R m j) []
 
--- how many bytes into the chosen image that part begins: cell j stands at number 4j, and a number has four bytes. A part of length 0 begins where the image does
+-- how many bytes into the chosen image that part begins: a number has four bytes. A part of length 0 begins where the image does
 unfoldable pub part_from : Bool → ℕ → ℕ → List ℕ → List ℕ → ℕ
-part_from isKept R j running kept = cond (readable R j (chosen isKept running kept)) (4 * (4 * j)) 0
+part_from isKept R j running kept = cond (readable R j (chosen isKept running kept)) (4 * cell_from j) 0
