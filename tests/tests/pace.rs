@@ -1,4 +1,4 @@
-//! The program `pace` against the model: it says "all" if the ring accepts each of its events, and the model accepts them.
+//! The program `pace` against the model: it says "all" if the ring accepts each of its 999,855 events, and the model accepts them.
 
 use std::io::Write;
 use std::process::{Command, Stdio};
@@ -45,7 +45,7 @@ fn all_is_accepted() {
             control = next;
         }
     }
-    assert_eq!((control.events, items), (15 * ROUNDS, ROUNDS));
+    assert_eq!((control.events, items), (999_855, ROUNDS));
     for input in ["1", "0", ""] {
         assert_eq!(program(input.as_bytes()), b"all\n", "input {input:?}");
     }

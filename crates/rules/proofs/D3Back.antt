@@ -17,6 +17,7 @@ use Rattle.rules.specs.Events.{write_back}
 use Rattle.rules.specs.Account.{Account, enters, writes}
 use Rattle.rules.proofs.Tests.{cond_cases}
 use Rattle.rules.proofs.Keep.{released_in}
+pub use Rattle.rules.proofs.Keep.{released-idle}
 use Rattle.rules.proofs.Memory.{length-set_cell, length-set_copy, length-set_closed, length-set_tail, cell_same, cell_other, cell_copy, cell_closed, cell_tail, copy_same, copy_other, copy_cell, copy_closed, copy_tail, closed_cell, closed_copy, closed_same, closed_tail}
 use Rattle.rules.proofs.D3Cells.{back_keeps}
 use Rattle.rules.proofs.D3Threads.{Frame, Carried, free}

@@ -17,13 +17,13 @@ cell_from j = 4 * j
 unfoldable pub cell_numbers : ℕ → List ℕ → ℕ → List ℕ
 cell_numbers R m j = take 4 (drop (4 * j) m)
 
+abbrev pub cells_size : ℕ → ℕ
+cells_size R = 4 * R
+
 -- the cells that a run of numbers holds, in order; fewer than four numbers at the end are none
 unfoldable pub cells_in : List ℕ → List Cell
 cells_in (s ∷ i ∷ x ∷ k ∷ m) = cell s i x k ∷ cells_in m
 cells_in _ = []
-
-abbrev pub cells_size : ℕ → ℕ
-cells_size R = 4 * R
 
 -- at 4R stand the n local copies of Head, then closed, then Tail
 unfoldable pub copy_at : ℕ → List ℕ → ℕ → ℕ
